@@ -1,0 +1,13 @@
+-- `word` meets its contract: four bytes, and four more.
+use native.Mathlib.Omega.{arith}
+use borrow.Author.Needs.{needs}
+use Rattle.slices.specs.Laws.LittleEndian.{fromLeBytes-part}
+use Rattle.slices.proofs.word.Statement.{statement}
+use Rattle.slices.proofs.word.Tie as tie
+
+returns : tie.Need-returns
+returns c = omega (arith, fromLeBytes-part (c .before .before .before .args .s .now) (c .before .before .before .args .i) 4 4 (omega arith))
+
+pub word-spec : {M : Type 1} → statement M
+word-spec =
+    tie.close (tie.spec (λ c κs. search needs) (λ c. search needs) (λ c κs. search needs) (λ c. search needs) (λ c. search needs) returns)

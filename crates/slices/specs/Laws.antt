@@ -1,0 +1,4 @@
+pub mod Put
+pub mod Zeros
+pub mod LittleEndian
+pub mod Same

@@ -1,0 +1,5 @@
+pub mod Uleb128
+pub mod Varint
+pub mod Signed
+pub mod Position
+pub mod Laws
