@@ -1,0 +1,2 @@
+pub mod LineIndex
+pub mod LineCol

@@ -1,0 +1,4 @@
+pub mod LineIndex
+pub mod LineCol
+pub mod Rises
+pub mod Laws

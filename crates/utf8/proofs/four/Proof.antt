@@ -1,0 +1,61 @@
+-- The four tests by the first byte are those of UTF8-4.
+use native.Mathlib.Omega.{arith}
+use borrow.Author.Needs.{needs}
+use Rattle.utf8.specs.Laws.Utf8.{four-F0, four-F1, four-F4, four-none}
+use Rattle.utf8.proofs.four.Statement.{statement}
+use Rattle.utf8.proofs.four.Tie as tie
+
+tail-requires : tie.Need-tail-requires
+tail-requires c κs = search needs
+
+tail-requires-2 : tie.Need-tail-requires-2
+tail-requires-2 c κs = search needs
+
+returns : tie.Need-returns
+returns c =
+    let x = c .before .before .before .args in
+    cc (four-F0 (x .a) (x .b) (x .c) (x .d) (c .before .before .if1 .taken))
+
+tail-requires-3 : tie.Need-tail-requires-3
+tail-requires-3 c κs = search needs
+
+tail-requires-4 : tie.Need-tail-requires-4
+tail-requires-4 c κs = search needs
+
+tail-requires-5 : tie.Need-tail-requires-5
+tail-requires-5 c κs = search needs
+
+returns-2 : tie.Need-returns-2
+returns-2 c =
+    let x = c .before .before .before .before .before .args in
+    cc (four-F1 (x .a) (x .b) (x .c) (x .d) (omega arith) (c .before .before .before .before .if1 .left) (omega arith))
+
+tail-requires-6 : tie.Need-tail-requires-6
+tail-requires-6 c κs = search needs
+
+tail-requires-7 : tie.Need-tail-requires-7
+tail-requires-7 c κs = search needs
+
+returns-3 : tie.Need-returns-3
+returns-3 c =
+    let x = c .before .before .before .before .before .args in
+    cc (four-F4 (x .a) (x .b) (x .c) (x .d) (c .before .before .if3 .taken))
+
+returns-4 : tie.Need-returns-4
+returns-4 c = four-none _ _ _ _ (omega arith) (c .if3 .left)
+
+pub four-spec : {M : Type 1} → statement M
+four-spec =
+    tie.close
+    (tie.spec
+    tail-requires
+    tail-requires-2
+    returns
+    tail-requires-3
+    tail-requires-4
+    tail-requires-5
+    returns-2
+    tail-requires-6
+    tail-requires-7
+    returns-3
+    returns-4)

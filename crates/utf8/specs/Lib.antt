@@ -1,0 +1,3 @@
+pub mod Utf8
+pub mod Skips
+pub mod Laws
