@@ -1,0 +1,28 @@
+//! The test for UTF-8 on valid texts of four scripts and four lengths.
+
+use super::measure;
+use crate::inputs::texts::{Script, text};
+use crate::random::Random;
+use port::host;
+use std::hint::black_box;
+use std::str::from_utf8;
+
+pub fn testing(seed: u64) {
+    let mut random = Random::new(seed);
+    for script in [Script::Ascii, Script::Latin, Script::Cyrillic, Script::Cjk] {
+        for length in [32, 256, 4096, 65536] {
+            let text = text(&mut random, script, length);
+            let bytes = text.as_bytes();
+            assert_eq!(host::is_utf8(bytes), 1);
+            measure(
+                &format!("UTF-8 test, {script:?}, {length} bytes"),
+                || {
+                    black_box(host::is_utf8(black_box(bytes)));
+                },
+                || {
+                    black_box(from_utf8(black_box(bytes)).is_ok());
+                },
+            );
+        }
+    }
+}

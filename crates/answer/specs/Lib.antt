@@ -1,0 +1,2 @@
+pub mod PutIfRoom
+pub mod Laws

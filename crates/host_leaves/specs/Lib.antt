@@ -1,0 +1,2 @@
+pub mod HostLeaves
+pub mod Laws
