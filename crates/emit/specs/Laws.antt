@@ -1,0 +1,4 @@
+pub mod Emit
+pub mod Bytes
+pub mod Lent
+pub mod Whole

@@ -1,0 +1,4 @@
+pub mod Row
+pub mod RowSpans
+pub mod Walks
+pub mod Writing

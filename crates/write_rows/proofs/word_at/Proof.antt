@@ -1,0 +1,32 @@
+-- `write_rows::word_at` meets its contract: a row has five words.
+use borrow.Author.Needs.{needs}
+use borrow.Author.Tests.{lt-ltb, le-ltb}
+use Rattle.payload.specs.Choice.{if_then_else_}
+use Rattle.write_rows.specs.Walk.{rowWord}
+use Rattle.write_rows.proofs.word_at.Statement.{statement}
+use Rattle.write_rows.proofs.word_at.Tie as tie
+
+mul-result : tie.Need-mul-result
+mul-result c = search needs
+
+add-result : tie.Need-add-result
+add-result c = search needs
+
+mul-result-2 : tie.Need-mul-result-2
+mul-result-2 c = search needs
+
+shared-slice-read-result : tie.Need-shared-slice-read-result
+shared-slice-read-result c = search needs
+
+returns : tie.Need-returns
+unfolding rowWord if_then_else_
+returns c = rw (lt-ltb (c .before .before .args .k) 5 (c .before .if1 .taken))
+
+returns-2 : tie.Need-returns-2
+unfolding rowWord if_then_else_
+returns-2 c = rw (le-ltb (c .before .args .k) 5 (c .if1 .left))
+
+pub word-at-spec : {M : Type 1} → statement M
+word-at-spec =
+    tie.close
+    (tie.spec mul-result add-result mul-result-2 shared-slice-read-result returns returns-2)

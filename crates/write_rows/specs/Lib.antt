@@ -1,0 +1,4 @@
+pub mod Walk
+pub mod Payload
+pub mod Reached
+pub mod Laws
