@@ -21,15 +21,15 @@ fn pair(s: &[u8], i: usize) -> u64
     wide(s[i]) + wide(s[i + 1]) * 0x100
 }
 
-// The same of four bytes.
-fn half(s: &[u8], i: usize) -> u64
+// Four bytes.
+pub fn half(s: &[u8], i: usize) -> u64
     requires { ⌜ i + 4 ≤ length (now s) ⌝ }
     ensures { λ r. ⌜ (r ≡ fromLeBytes (take 4 (drop i (now (s .entry))))) × (r < 0x1_0000_0000) ⌝ }
 {
     pair(s, i) + pair(s, i + 2) * 0x1_0000
 }
 
-// The same of eight bytes. Compiled to one load.
+// Eight bytes. Compiled to one load.
 pub fn word(s: &[u8], i: usize) -> u64
     requires { ⌜ i + 8 ≤ length (now s) ⌝ }
     ensures { λ r. ⌜ r ≡ fromLeBytes (take 8 (drop i (now (s .entry)))) ⌝ }

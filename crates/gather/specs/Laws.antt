@@ -1,0 +1,3 @@
+pub mod Interning
+pub mod Gather
+pub mod Named

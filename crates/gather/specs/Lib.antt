@@ -1,0 +1,4 @@
+pub mod Gather
+pub mod Named
+pub mod Interning
+pub mod Laws

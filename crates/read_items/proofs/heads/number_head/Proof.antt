@@ -1,0 +1,13 @@
+-- `number_head` meets its contract, variant by variant.
+use borrow.Author.Needs.{needs}
+use Rattle.read_items.proofs.heads.number_head.Statement.{statement}
+use Rattle.read_items.proofs.heads.number_head.Tie as tie
+
+returns : tie.Need-returns
+returns c = rw (c .before .number .given .1)
+
+returns-2 : tie.Need-returns-2
+returns-2 c = rw (c .before .number2 .given .1)
+
+pub number-head-spec : {M : Type 1} → statement M
+number-head-spec = tie.close (tie.spec (λ c. search needs) (λ c. search needs) returns returns-2)

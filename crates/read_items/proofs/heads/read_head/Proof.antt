@@ -1,0 +1,165 @@
+-- `read_head` meets its contract: each class has its law.
+use borrow.Author.Needs.{needs}
+use Rattle.payload.specs.Numbers.{readNumber, u8, bool, char, f64, f32}
+use Rattle.read_items.specs.Class.{shapeOf}
+use Rattle.read_items.specs.Numbers.{kindOf}
+use Rattle.read_items.specs.Laws.Heads.{head-empty, head-one-value, head-number, head-string, head-values, head-keys, head-pairs}
+use Rattle.read_items.proofs.heads.read_head.Statement.{statement}
+use Rattle.read_items.proofs.heads.read_head.Tie as tie
+
+returns : tie.Need-returns
+unfolding shapeOf
+returns c =
+    let inside = c .before .before .before .before .before .pre .0 in
+    rw (c .enum-told .given .1) (record { out = head-empty inside })
+
+returns-2 : tie.Need-returns-2
+unfolding shapeOf
+returns-2 c =
+    rw (c .before .before .before .class .given .1, c .number-head .ensures)
+    (head-number (kindOf (c .before .before .before .class .given .0 .0)) (c .before .read-cut .result) (c .before .read-cut .ensures))
+
+returns-3 : tie.Need-returns-3
+unfolding shapeOf readNumber
+returns-3 c = rw (c .before .before .enum-told2 .given .1, c .number-head2 .ensures) (head-number u8 (c .before .read-byte .result) (c .before .read-byte .ensures))
+
+returns-4 : tie.Need-returns-4
+unfolding shapeOf
+returns-4 c = rw (c .before .before .enum-told3 .given .1, c .number-head3 .ensures) (head-number bool (c .before .read-bool .result) (c .before .read-bool .ensures))
+
+returns-5 : tie.Need-returns-5
+unfolding shapeOf
+returns-5 c = rw (c .before .before .enum-told4 .given .1, c .number-head4 .ensures) (head-number char (c .before .read-char .result) (c .before .read-char .ensures))
+
+returns-6 : tie.Need-returns-6
+unfolding shapeOf
+returns-6 c = rw (c .before .before .enum-told5 .given .1, c .number-head5 .ensures) (head-number f64 (c .before .read-f64 .result) (c .before .read-f64 .ensures))
+
+returns-7 : tie.Need-returns-7
+unfolding shapeOf
+returns-7 c = rw (c .before .before .enum-told6 .given .1, c .number-head6 .ensures) (head-number f32 (c .before .read-f32 .result) (c .before .read-f32 .ensures))
+
+returns-8 : tie.Need-returns-8
+unfolding shapeOf
+returns-8 c = rw (c .before .before .enum-told7 .given .1, c .part-head .ensures) (head-string (c .before .read-pool-index .result) (c .before .read-pool-index .ensures))
+
+returns-9 : tie.Need-returns-9
+returns-9 c = rw (c .before .enum-told8 .given .1) (c .read-native-head .ensures)
+
+returns-10 : tie.Need-returns-10
+returns-10 c =
+    let names = c .before .before .before .before .before .before .args .names .now in
+    rw (c .before .enum-told9 .given .1) (c .read-function-head .ensures names)
+
+returns-11 : tie.Need-returns-11
+unfolding shapeOf
+returns-11 c =
+    let inside = c .before .before .before .before .before .pre .0 in
+    rw (c .enum-told10 .given .1) (record { out = head-one-value inside })
+
+returns-12 : tie.Need-returns-12
+unfolding shapeOf
+returns-12 c =
+    let inside = c .before .before .before .before .before .before .before .pre .0 in
+    rw (c .before .before .enum-told11 .given .1, c .count-head .ensures) (head-values inside (c .before .read-uvarint .result) (c .before .read-uvarint .ensures))
+
+returns-13 : tie.Need-returns-13
+unfolding shapeOf
+returns-13 c =
+    let inside = c .before .before .before .before .before .before .before .pre .0 in
+    rw (c .before .before .enum-told12 .given .1, c .count-head2 .ensures) (head-keys inside (c .before .read-uvarint2 .result) (c .before .read-uvarint2 .ensures))
+
+returns-14 : tie.Need-returns-14
+unfolding shapeOf
+returns-14 c =
+    let inside = c .before .before .before .before .before .before .before .pre .0 in
+    rw (c .before .before .enum-told13 .given .1, c .count-head3 .ensures) (head-pairs inside (c .before .read-uvarint3 .result) (c .before .read-uvarint3 .ensures))
+
+returns-15 : tie.Need-returns-15
+returns-15 c =
+    let names = c .before .before .before .before .before .before .args .names .now in
+    rw (c .before .enum-told14 .given .1) (c .read-record-head .ensures names)
+
+returns-16 : tie.Need-returns-16
+returns-16 c =
+    let names = c .before .before .before .before .before .before .args .names .now in
+    rw (c .before .enum-told15 .given .1) (c .read-tag-head .ensures names)
+
+returns-17 : tie.Need-returns-17
+returns-17 c =
+    let names = c .before .before .before .before .before .before .args .names .now in
+    let pool = c .before .before .before .before .before .before .args .pool .now in
+    rw (c .before .enum-told16 .given .1) (c .read-closure-head .ensures names pool)
+
+returns-18 : tie.Need-returns-18
+returns-18 c =
+    let names = c .before .before .before .before .before .before .args .names .now in
+    let pool = c .before .before .before .before .before .before .args .pool .now in
+    rw (c .before .enum-told17 .given .1) (c .read-handle-head .ensures names pool)
+
+pub read-head-spec : {M : Type 1} → statement M
+read-head-spec =
+    tie.close
+    (tie.spec
+    (λ c. search needs)
+    (λ c. search needs)
+    (λ c κs. search needs)
+    (λ c κs. search needs)
+    (λ c. search needs)
+    (λ c κs. search needs)
+    (λ c κs. search needs)
+    (λ c. search needs)
+    (λ c κs. search needs)
+    (λ c κs. search needs)
+    (λ c. search needs)
+    (λ c κs. search needs)
+    (λ c κs. search needs)
+    (λ c. search needs)
+    (λ c κs. search needs)
+    (λ c κs. search needs)
+    (λ c. search needs)
+    (λ c κs. search needs)
+    (λ c κs. search needs)
+    (λ c. search needs)
+    (λ c κs. search needs)
+    (λ c κs. search needs)
+    (λ c. search needs)
+    (λ c κs. search needs)
+    (λ c. search needs)
+    (λ c κs. search needs)
+    (λ c. search needs)
+    (λ c. search needs)
+    (λ c κs. search needs)
+    (λ c κs. search needs)
+    (λ c. search needs)
+    (λ c κs. search needs)
+    (λ c κs. search needs)
+    (λ c. search needs)
+    (λ c κs. search needs)
+    (λ c κs. search needs)
+    (λ c. search needs)
+    (λ c κs. search needs)
+    (λ c. search needs)
+    (λ c κs. search needs)
+    (λ c. search needs)
+    (λ c κs. search needs)
+    (λ c. search needs)
+    (λ c κs. search needs)
+    returns
+    returns-2
+    returns-3
+    returns-4
+    returns-5
+    returns-6
+    returns-7
+    returns-8
+    returns-9
+    returns-10
+    returns-11
+    returns-12
+    returns-13
+    returns-14
+    returns-15
+    returns-16
+    returns-17
+    returns-18)

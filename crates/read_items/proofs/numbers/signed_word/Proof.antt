@@ -1,0 +1,21 @@
+-- `signed_word` meets its contract: what zigzag gives fits 64 signed bits.
+use mathlib.Core.Path.{ap, _∙_}
+use native.Mathlib.Omega.{arith}
+use mir.Facts.{toZ-ofZ}
+use mir.Syntax.{w64}
+use mir.Val.{SFits}
+use borrow.Author.Needs.{needs}
+use Rattle.varint.specs.Laws.Signed.{unzigzag-range}
+use Rattle.varint.specs.Signed.{wordOf, unzigzagOf}
+use Rattle.varint.specs.Signed.{wordOf}
+use Rattle.read_items.proofs.numbers.signed_word.Statement.{statement}
+use Rattle.read_items.proofs.numbers.signed_word.Tie as tie
+
+returns : tie.Need-returns
+returns c =
+    let z = unzigzagOf (c .before .before .args .z) in
+    let fits : SFits w64 z = record { sfits = unzigzag-range (c .before .before .args .z) (omega (arith, c .before .before .fits .z)) } in
+    c .to-word .ensures ∙ rw (c .before .unzigzag .ensures) (ap wordOf (toZ-ofZ {w = w64} {z = z} fits))
+
+pub signed-word-spec : {M : Type 1} → statement M
+signed-word-spec = tie.close (tie.spec (λ c κs. search needs) (λ c κs. search needs) returns)

@@ -1,0 +1,7 @@
+pub mod Reads
+pub mod Context
+pub mod Numbers
+pub mod Class
+pub mod Heads
+pub mod Following
+pub mod Laws

@@ -1,0 +1,205 @@
+// The head of a row, by its class: its items, and the count of what follows them.
+ghost use mathlib.Core.Path.{_≡_};
+ghost use mathlib.Core.List.{List};
+ghost use Prim.Native.Nat.{ℕ, _≤_};
+ghost use lib.ListN.{length};
+ghost use Rattle.payload.specs.Shapes.{shape};
+ghost use Rattle.read_items.specs.Context.{PoolFits};
+ghost use Rattle.read_items.specs.Class.{shapeOf};
+ghost use Rattle.read_items.specs.Heads.{ReadsHead, numberHead, countHead, partHead};
+use crate::Class;
+use crate::Cut;
+use crate::Head;
+use crate::Number;
+use crate::PartAt;
+use crate::items;
+use crate::numbers;
+
+// The class of a value's tag.
+pub fn class_of(tag: u64) -> Class
+    requires { ⌜ tag ≤ 26 ⌝ }
+    ensures { λ r. ⌜ shapeOf r ≡ shape tag ⌝ }
+{
+    match tag {
+        1 => Class::Varint(Cut::I64),
+        2 => Class::Float,
+        3 => Class::Bool,
+        4 => Class::Byte,
+        5 => Class::Char,
+        6 => Class::Str,
+        7 => Class::Function,
+        8 => Class::Native,
+        9 => Class::OneValue,
+        10 => Class::OneValue,
+        11 => Class::OneValue,
+        12 => Class::Values,
+        13 => Class::Values,
+        14 => Class::Keys,
+        15 => Class::Pairs,
+        16 => Class::Record,
+        17 => Class::Tag,
+        18 => Class::Closure,
+        19 => Class::Varint(Cut::U64),
+        20 => Class::Varint(Cut::I32),
+        21 => Class::Varint(Cut::U32),
+        22 => Class::Varint(Cut::U16),
+        23 => Class::Varint(Cut::I16),
+        24 => Class::Varint(Cut::I8),
+        25 => Class::SFloat,
+        26 => Class::Handle,
+        _ => Class::Empty,
+    }
+}
+
+fn number_head(number: Number) -> Head
+    ensures { λ r. ⌜ r ≡ numberHead number ⌝ }
+{
+    match number {
+        Number::Read(w, next) => Head::Row(w, 0, 0, 0, 0, next),
+        Number::Refused(n, q) => Head::Refused(n, q),
+    }
+}
+
+fn count_head(number: Number) -> Head
+    ensures { λ r. ⌜ r ≡ countHead number ⌝ }
+{
+    match number {
+        Number::Read(count, next) => Head::Row(count, 0, 0, 0, count, next),
+        Number::Refused(n, q) => Head::Refused(n, q),
+    }
+}
+
+fn part_head(count: u64, part: PartAt) -> Head
+    ensures { λ r. ⌜ r ≡ partHead count part ⌝ }
+{
+    match part {
+        PartAt::Part(o, n, next) => Head::Row(o, n, 0, 0, count, next),
+        PartAt::Refused(n, q) => Head::Refused(n, q),
+    }
+}
+
+// A native's name, which must be in the list.
+fn read_native_head(bytes: &[u8], names: &[u8], pool: &[u64], at: usize) -> Head
+    requires { ⌜ PoolFits (now bytes) (now pool) ⌝ }
+    ensures { λ r. ⌜ ReadsHead (now (bytes .entry)) (now (names .entry)) (now (pool .entry)) at (shapeOf Class.Native) r ⌝ }
+{
+    match items::read_pool_index(bytes, pool, at) {
+        PartAt::Part(o, n, next) => {
+            if native_names::is_listed(names, bytes, o, n) {
+                return Head::Row(o, n, 0, 0, 0, next);
+            }
+            Head::Refused(14, at)
+        }
+        PartAt::Refused(n, q) => Head::Refused(n, q),
+    }
+}
+
+// A function's name and arity. One chunk row follows.
+fn read_function_head(bytes: &[u8], pool: &[u64], at: usize) -> Head
+    requires { ⌜ PoolFits (now bytes) (now pool) ⌝ }
+    ensures { λ r. ⌜ ((names : List ℕ) → ReadsHead (now (bytes .entry)) names (now (pool .entry)) at (shapeOf Class.Function) r) ⌝ }
+{
+    match items::read_pool_index(bytes, pool, at) {
+        PartAt::Part(o, n, mid) => match items::read_uvarint(bytes, mid) {
+            Number::Read(arity, next) => Head::Row(o, n, arity, 0, 1, next),
+            Number::Refused(n, q) => Head::Refused(n, q),
+        },
+        PartAt::Refused(n, q) => Head::Refused(n, q),
+    }
+}
+
+// A record's name and the count of its fields.
+fn read_record_head(bytes: &[u8], pool: &[u64], at: usize) -> Head
+    requires { ⌜ PoolFits (now bytes) (now pool) ⌝ }
+    ensures { λ r. ⌜ ((names : List ℕ) → ReadsHead (now (bytes .entry)) names (now (pool .entry)) at (shapeOf Class.Record) r) ⌝ }
+{
+    match items::read_pool_index(bytes, pool, at) {
+        PartAt::Part(o, n, mid) => match items::read_uvarint(bytes, mid) {
+            Number::Read(count, next) => Head::Row(o, n, count, 0, count, next),
+            Number::Refused(n, q) => Head::Refused(n, q),
+        },
+        PartAt::Refused(n, q) => Head::Refused(n, q),
+    }
+}
+
+// A tag's name and variant.
+fn read_tag_head(bytes: &[u8], pool: &[u64], at: usize) -> Head
+    requires { ⌜ PoolFits (now bytes) (now pool) ⌝ }
+    ensures { λ r. ⌜ ((names : List ℕ) → ReadsHead (now (bytes .entry)) names (now (pool .entry)) at (shapeOf Class.Tag) r) ⌝ }
+{
+    match items::read_pool_index(bytes, pool, at) {
+        PartAt::Part(o, n, mid) => match items::read_pool_index(bytes, pool, mid) {
+            PartAt::Part(variant_o, variant_n, next) => Head::Row(
+                o,
+                n,
+                variant_o,
+                variant_n,
+                0,
+                next,
+            ),
+            PartAt::Refused(n, q) => Head::Refused(n, q),
+        },
+        PartAt::Refused(n, q) => Head::Refused(n, q),
+    }
+}
+
+// What stands after a closure's template: the capture start, and the count of captured values.
+pub fn read_closure_head(bytes: &[u8], at: usize) -> Head
+    ensures { λ r. ⌜ ((names pool : List ℕ) → ReadsHead (now (bytes .entry)) names pool at (shapeOf Class.Closure) r) ⌝ }
+{
+    match numbers::read_cut(Cut::U16, bytes, at) {
+        Number::Read(start, mid) => match items::read_uvarint(bytes, mid) {
+            Number::Read(count, next) => Head::Row(start, count, 0, 0, count, next),
+            Number::Refused(n, q) => Head::Refused(n, q),
+        },
+        Number::Refused(n, q) => Head::Refused(n, q),
+    }
+}
+
+// A handle's kind and id.
+fn read_handle_head(bytes: &[u8], at: usize) -> Head
+    ensures { λ r. ⌜ ((names pool : List ℕ) → ReadsHead (now (bytes .entry)) names pool at (shapeOf Class.Handle) r) ⌝ }
+{
+    match numbers::read_handle_kind(bytes, at) {
+        Number::Read(kind, mid) => match items::read_uvarint(bytes, mid) {
+            Number::Read(id, next) => Head::Row(kind, id, 0, 0, 0, next),
+            Number::Refused(n, q) => Head::Refused(n, q),
+        },
+        Number::Refused(n, q) => Head::Refused(n, q),
+    }
+}
+
+// A field's name. One value follows.
+pub fn read_field_head(bytes: &[u8], pool: &[u64], at: usize) -> Head
+    requires { ⌜ PoolFits (now bytes) (now pool) ⌝ }
+    ensures { λ r. ⌜ ((names : List ℕ) → ReadsHead (now (bytes .entry)) names (now (pool .entry)) at (shape 33) r) ⌝ }
+{
+    part_head(1, items::read_pool_index(bytes, pool, at))
+}
+
+// The head of a value's row.
+pub fn read_head(class: Class, bytes: &[u8], names: &[u8], pool: &[u64], at: usize) -> Head
+    requires { ⌜ (at ≤ length (now bytes)) × PoolFits (now bytes) (now pool) ⌝ }
+    ensures { λ r. ⌜ ReadsHead (now (bytes .entry)) (now (names .entry)) (now (pool .entry)) at (shapeOf class) r ⌝ }
+{
+    match class {
+        Class::Empty => Head::Row(0, 0, 0, 0, 0, at),
+        Class::Varint(cut) => number_head(numbers::read_cut(cut, bytes, at)),
+        Class::Byte => number_head(items::read_byte(bytes, at)),
+        Class::Bool => number_head(numbers::read_bool(bytes, at)),
+        Class::Char => number_head(numbers::read_char(bytes, at)),
+        Class::Float => number_head(numbers::read_f64(bytes, at)),
+        Class::SFloat => number_head(numbers::read_f32(bytes, at)),
+        Class::Str => part_head(0, items::read_pool_index(bytes, pool, at)),
+        Class::Native => read_native_head(bytes, names, pool, at),
+        Class::Function => read_function_head(bytes, pool, at),
+        Class::OneValue => Head::Row(0, 0, 0, 0, 1, at),
+        Class::Values => count_head(items::read_uvarint(bytes, at)),
+        Class::Keys => count_head(items::read_uvarint(bytes, at)),
+        Class::Pairs => count_head(items::read_uvarint(bytes, at)),
+        Class::Record => read_record_head(bytes, pool, at),
+        Class::Tag => read_tag_head(bytes, pool, at),
+        Class::Closure => read_closure_head(bytes, at),
+        Class::Handle => read_handle_head(bytes, at),
+    }
+}
