@@ -2,10 +2,17 @@
 pub mod heads;
 pub mod items;
 mod numbers;
+pub mod positions;
 
 // A number and the place after it, or a refusal's number and place.
 pub enum Number {
     Read(u64, usize),
+    Refused(u64, usize),
+}
+
+// A running position and the place after its delta, or a refusal's number and place.
+pub enum PositionAt {
+    Position(i64, usize),
     Refused(u64, usize),
 }
 

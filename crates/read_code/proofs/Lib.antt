@@ -1,0 +1,5 @@
+pub mod Found
+pub mod Short
+pub mod SpanTable
+pub mod Runs
+pub mod CodeSteps

@@ -1,0 +1,50 @@
+-- `read_position` meets its contract.
+use mathlib.Core.Path.{_∙_}
+use borrow.Author.Needs.{needs}
+use mir.Facts.{toZ-ofZ}
+use Rattle.read_code.proofs.Found.{signed, was-number, no-number, reads-position, reads-no-position, reads-position-stop}
+use Rattle.read_code.proofs.read_position.Statement.{statement}
+use Rattle.read_code.proofs.read_position.Tie as tie
+
+returns : tie.Need-returns
+returns c =
+    let delta = c .before .before .before .before .before .before in
+    let number = was-number (delta .delta .given .1) (delta .before .before .uvarint .ensures) in
+    let unzigzag = c .before .before .before .before .unzigzag in
+    rw (signed (c .known-told2 .given .0 .1))
+    (reads-position
+    (toZ-ofZ (delta .before .before .before .before .fits .old))
+    (signed (unzigzag .ok) ∙ unzigzag .ensures)
+    (c .before .before .before .add-delta .ensures)
+    number
+    (c .before .new .given .1))
+
+returns-2 : tie.Need-returns-2
+returns-2 c =
+    let delta = c .before .before .before .before .before in
+    let number = was-number (delta .delta .given .1) (delta .before .before .uvarint .ensures) in
+    let unzigzag = c .before .before .before .unzigzag in
+    reads-no-position
+    (toZ-ofZ (delta .before .before .before .before .fits .old))
+    (signed (unzigzag .ok) ∙ unzigzag .ensures)
+    (c .before .before .add-delta .ensures)
+    number
+    (c .enum-told .given .1)
+
+returns-3 : tie.Need-returns-3
+returns-3 c = reads-position-stop _ (no-number (c .before .n .given .1) (c .before .before .before .uvarint .ensures))
+
+pub read-position-spec : {M : Type 1} → statement M
+read-position-spec =
+    tie.close
+    (tie.spec
+    (λ c κs. search needs)
+    (λ c. search needs)
+    (λ c κs. search needs)
+    (λ c κs. search needs)
+    (λ c. search needs)
+    (λ c. search needs)
+    (λ c. search needs)
+    returns
+    returns-2
+    returns-3)

@@ -1,0 +1,33 @@
+-- `read_line_index` meets its contract: the flag, and what stands after it.
+use native.Mathlib.Omega.{arith}
+use borrow.Author.Needs.{needs}
+use Rattle.read_items.specs.Laws.Reads.{was-read, was-refused}
+use Rattle.read_lines.proofs.Lines.{no-flag, bad-flag, without-lines, with-lines}
+use Rattle.read_lines.proofs.read_line_index.Statement.{statement}
+use Rattle.read_lines.proofs.read_line_index.Tie as tie
+
+returns : tie.Need-returns
+returns c = record { outcome = bad-flag (was-read (c .before .before .flag .given .1) (c .before .before .before .before .read-byte .ensures)) (omega arith) }
+
+returns-2 : tie.Need-returns-2
+returns-2 c = record { outcome = without-lines (was-read (c .before .before .before .flag .given .1) (c .before .before .before .before .before .read-byte .ensures)) (c .if2 .taken) }
+
+returns-3 : tie.Need-returns-3
+returns-3 c = with-lines (was-read (c .before .before .before .before .before .before .before .flag .given .1) (c .before .before .before .before .before .before .before .before .before .read-byte .ensures)) (omega arith) (omega arith) (c .before .before .read-flagged .ensures)
+
+returns-4 : tie.Need-returns-4
+returns-4 c = record { outcome = no-flag (was-refused (c .before .n .given .1) (c .before .before .before .read-byte .ensures)) }
+
+pub read-line-index-spec : {M : Type 1} → statement M
+read-line-index-spec =
+    tie.close
+    (tie.spec
+    (λ c κs. search needs)
+    (λ c. search needs)
+    returns
+    returns-2
+    (λ c κs. search needs)
+    (λ c. search needs)
+    (λ c. search needs)
+    returns-3
+    returns-4)

@@ -1,0 +1,3 @@
+pub mod LinesRead
+pub mod Starts
+pub mod Laws

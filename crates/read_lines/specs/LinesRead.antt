@@ -1,0 +1,40 @@
+-- What reading the line index into a table of starts has to do with the definition's reader.
+use mathlib.Core.List.{List}
+use mathlib.Core.Option.{Option}
+use mathlib.Core.Path.{_≡_}
+use Prim.Native.Nat.{ℕ, _≤_}
+use lib.ListN.{length}
+use Rattle.slices.specs.Put.{put}
+use Rattle.payload.specs.Reader.{Part, Reader}
+use Rattle.payload.specs.Reading.{Capacities, Context}
+use Rattle.payload.specs.Tables.{lineFlag, lineName, lineStarts}
+use Rattle.payload.specs.Trees.{LineIndex}
+use Rattle.read_items.specs.Reads.{Answer, read, stopped, Reads}
+use Rattle.read_items.specs.Context.{contextOf}
+use Rattle.read_lines.specs.declared.LinesAt.{LinesAt}
+use Rattle.read_lines.specs.declared.LinesAt.the-variants.{Lines, Refused}
+
+-- the answer is what the reader gives at a place of p, whatever names are listed and whatever room there is for all but starts
+pub record InContext {A : Type 0} (p pool : List ℕ) (most at : ℕ) (reader : Context → Reader A) (answer : Answer A) : Type 0 where
+  pub reads : (c : Capacities) (names : List ℕ) → c .maxStarts ≡ most → Reads p at (reader (contextOf c p names pool)) answer
+
+-- a line index, or none, which ends at `next`: its starts stand in the table from its begin
+pub record Accepted (p pool table table′ : List ℕ) (most at : ℕ) (reader : Context → Reader (Option (LineIndex Part))) (flag o n k next : ℕ) : Type 0 where
+  pub line : Option (LineIndex Part)
+  pub is : InContext p pool most at reader (read line next)
+  pub flag-is : flag ≡ lineFlag line
+  pub offset-is : o ≡ lineName line .offset
+  pub length-is : n ≡ length (lineName line .bytes)
+  pub each : k ≡ length (lineStarts line)
+  pub stored : table′ ≡ put table 0 (lineStarts line)
+  pub fits : k ≤ most
+  pub inside : next ≤ length p
+
+-- nothing is said of the table after a refusal
+abbrev pub Outcome : List ℕ → List ℕ → List ℕ → List ℕ → ℕ → ℕ → (Context → Reader (Option (LineIndex Part))) → LinesAt → Type 0
+Outcome p pool table table′ most at reader (Lines flag o n k next) = Accepted p pool table table′ most at reader flag o n k next
+Outcome p pool table table′ most at reader (Refused n q) = InContext p pool most at reader (stopped n q)
+
+-- r is what the definition's reader reads at a place of p, and `table′` is the table after it
+pub record LinesRead (p pool table table′ : List ℕ) (most at : ℕ) (reader : Context → Reader (Option (LineIndex Part))) (r : LinesAt) : Type 0 where
+  pub outcome : Outcome p pool table table′ most at reader r

@@ -1,0 +1,27 @@
+-- `read_pool` meets its contract: the count of the strings, then the strings.
+use borrow.Author.Needs.{needs}
+use Rattle.read_items.specs.Laws.Reads.{was-read, was-refused}
+use Rattle.read_pool.proofs.Strings.{no-count, pool-read}
+use Rattle.read_pool.proofs.read_pool.Statement.{statement}
+use Rattle.read_pool.proofs.read_pool.Tie as tie
+
+read-strings-requires : tie.Need-read-strings-requires
+read-strings-requires c κs = let g = was-read (c .before .before .count .given .1) (c .before .before .before .before .read-uvarint .ensures) in (g .inside, c .before .before .before .before .before .before .before .pre)
+
+returns : tie.Need-returns
+returns c = pool-read _ (was-read (c .before .before .before .before .before .count .given .1) (c .before .before .before .before .before .before .before .read-uvarint .ensures)) (c .before .before .before .before .before .before .before .before .before .before .pre) (c .before .before .read-strings .ensures)
+
+returns-2 : tie.Need-returns-2
+returns-2 c = record { outcome = no-count _ (was-refused (c .before .n .given .1) (c .before .before .before .read-uvarint .ensures)) }
+
+pub read-pool-spec : {M : Type 1} → statement M
+read-pool-spec =
+    tie.close
+    (tie.spec
+    (λ c κs. search needs)
+    (λ c. search needs)
+    read-strings-requires
+    (λ c. search needs)
+    (λ c. search needs)
+    returns
+    returns-2)

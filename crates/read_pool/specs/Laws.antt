@@ -1,0 +1,2 @@
+pub mod PoolTable
+pub mod PoolRead

@@ -1,0 +1,3 @@
+pub mod PoolRead
+pub mod Strings
+pub mod Laws
