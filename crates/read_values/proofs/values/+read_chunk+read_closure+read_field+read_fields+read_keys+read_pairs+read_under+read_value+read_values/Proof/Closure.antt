@@ -1,0 +1,79 @@
+-- `read_closure`: the template, then the row before it, then the captured values.
+use Prim.Native.Nat.{ℕ, suc}
+use mathlib.Core.Path.{refl, sym, ap, _∙_}
+use mathlib.Core.List.{[], _∷_}
+use native.Mathlib.Omega.{arith}
+use borrow.Author.Needs.{needs}
+use Rattle.payload.specs.Choice.{if_then_else_}
+use Rattle.payload.specs.Numbers.{u16}
+use Rattle.payload.specs.Reader.{andThen, _>>=_}
+use Rattle.payload.specs.Reading.{readValue}
+use Rattle.payload.specs.Rows.{rootCount}
+use Rattle.payload.specs.Shapes.{ItemKind, shape, shapes}
+use Rattle.payload.specs.Trees.{cons}
+use Rattle.read_items.specs.Class.{shapeOf}
+use Rattle.read_items.specs.Heads.{rowsUnder}
+use Rattle.read_items.specs.declared.Class.the-variants.{Closure}
+use Rattle.read_values.specs.Did.{capacities, context, stateOf}
+use Rattle.read_values.specs.Laws.Did.{ran-of, no-of}
+use Rattle.read_values.proofs.Shape.{closure-head, closure-no, closure-other, many-count}
+use Rattle.read_values.proofs.Value.{did-closure, first-tag, no-row, row-of, row-told, some-words}
+use borrow.Fn.PlainCycle.{is}
+use Rattle.read_values.proofs.values.read_closure.Reads as read-closure
+use Rattle.read_values.proofs.values.+read_chunk+read_closure+read_field+read_fields+read_keys+read_pairs+read_under+read_value+read_values.Lts-read_closure as read-closure-lts
+use Rattle.read_values.proofs.values.+read_chunk+read_closure+read_field+read_fields+read_keys+read_pairs+read_under+read_value+read_values.Proof.Common.{read-closure-at, read-closure-known}
+
+read-closure-slice-read-if1 : (t : ℕ) → read-closure-lts.Need-slice-read-if1 (read-closure-known t) (read-closure-at t) read-closure.Post
+read-closure-slice-read-if1 t c = let g = ran-of (c .before .before .before .mid .given .1) (c .before .before .before .before .before .before .before .before .before .read-value .ensures) in omega (arith, g .1 .size, g .1 .used, some-words (g .0), c .before .before .before .before .before .before .before .before .before .before .before .before .before .before .before .before .before .pre .1 .0, c .before .before .before .before .before .before .before .before .before .read-value .kept)
+
+read-closure-returns : (t : ℕ) → read-closure-lts.Need-returns (read-closure-known t) (read-closure-at t) read-closure.Post
+unfolding shape shapes if_then_else_ shapeOf
+read-closure-returns t c = let g = ran-of (c .before .before .before .before .mid .given .1) (c .before .before .before .before .before .before .before .before .before .before .read-value .ensures) in record { out = closure-other (context (c .before .before .before .before .before .before .before .before .before .before .before .before .before .before .before .before .before .before .args .limits) (c .before .before .before .before .before .before .before .before .before .before .before .before .before .before .before .before .before .before .args .bytes .now) (c .before .before .before .before .before .before .before .before .before .before .before .before .before .before .before .before .before .before .args .names .now) (c .before .before .before .before .before .before .before .before .before .before .before .before .before .before .before .before .before .before .args .pool .now)) (readValue (context (c .before .before .before .before .before .before .before .before .before .before .before .before .before .before .before .before .before .before .args .limits) (c .before .before .before .before .before .before .before .before .before .before .before .before .before .before .before .before .before .before .args .bytes .now) (c .before .before .before .before .before .before .before .before .before .before .before .before .before .before .before .before .before .before .args .names .now) (c .before .before .before .before .before .before .before .before .before .before .before .before .before .before .before .before .before .before .args .pool .now)) (c .before .before .before .before .before .before .before .before .before .before .before .before .before .before .before .before .before .before .args .left)) 18 (ItemKind.number u16 ∷ []) (stateOf (c .before .before .before .before .before .before .before .before .before .before .before .before .before .before .before .before .before .before .args .bytes .now) (c .before .before .before .before .before .before .before .before .before .before .before .before .before .before .before .before .before .before .args .state)) (stateOf (c .before .before .before .before .before .before .before .before .before .before .before .before .before .before .before .before .before .before .args .bytes .now) (c .before .before .before .before .mid .given .0 .0)) (g .0) (g .1 .is) (λ q. c .if1 .taken ((first-tag _ _ _ (g .0) (g .1 .wrote) (omega (arith, c .before .before .before .before .before .before .before .before .before .before .before .before .before .before .before .before .before .before .pre .1 .0, g .1 .size, g .1 .used, some-words (g .0)))) ∙ q)) }
+
+read-closure-write-row-requires : (t : ℕ) → read-closure-lts.Need-write-row-requires (read-closure-known t) (read-closure-at t) read-closure.Post
+read-closure-write-row-requires t c κs = omega (arith, c .before .before .before .before .before .before .before .before .before .before .before .before .before .before .before .before .before .before .before .before .before .before .before .pre .1 .0, c .before .before .before .before .before .before .before .before .before .before .before .before .before .before .before .read-value .kept, c .before .before .before .before .before .before .before .before .before .before .before .before .before .before .before .before .before .before .before .before .before .before .before .pre .1 .1 .1)
+
+read-closure-read-values-requires : (t : ℕ) → read-closure-lts.Need-read-values-requires (read-closure-known t) (read-closure-at t) read-closure.Post
+read-closure-read-values-requires t c κs = let g = ran-of (c .before .before .before .before .before .before .before .before .before .before .before .before .before .before .mid .given .1) (c .before .before .before .before .before .before .before .before .before .before .before .before .before .before .before .before .before .before .before .before .read-value .ensures) in (omega (arith, c .before .before .before .before .before .before .before .before .before .before .before .before .before .before .before .before .before .before .before .before .before .before .before .before .before .before .before .before .pre .0), (omega (arith, c .before .before .before .before .before .before .before .before .before .before .before .before .before .before .before .before .before .before .before .before .before .before .before .before .before .before .before .before .pre .1 .0, c .before .before .before .before .before .before .before .before .before .before .before .before .before .before .before .before .before .before .before .before .read-value .kept, c .before .before .before .before .write-row .kept, g .1 .used, g .1 .covered, (row-of (c .before .before .before .before .before .before .before .a .given .1) (c .before .before .before .before .before .before .before .before .before .read-closure-head .ensures (c .before .before .before .before .before .before .before .before .before .before .before .before .before .before .before .before .before .before .before .before .before .before .before .before .before .before .before .before .args .names .now) (c .before .before .before .before .before .before .before .before .before .before .before .before .before .before .before .before .before .before .before .before .before .before .before .before .before .before .before .before .args .pool .now))) .is (capacities (c .before .before .before .before .before .before .before .before .before .before .before .before .before .before .before .before .before .before .before .before .before .before .before .before .before .before .before .before .args .limits)) .inside), c .before .before .before .before .before .before .before .before .before .before .before .before .before .before .before .before .before .before .before .before .before .before .before .before .before .before .before .before .pre .1 .1 .0))
+
+read-closure-same-length-3 : (t : ℕ) → read-closure-lts.Need-same-length-3 (read-closure-known t) (read-closure-at t) read-closure.Post
+read-closure-same-length-3 t c = omega (arith, c .before .before .before .before .before .before .before .before .before .before .before .before .before .before .before .before .before .before .before .before .before .before .before .before .before .read-value .kept, c .before .before .before .before .before .before .before .before .before .write-row .kept, c .before .before .before .before .read-values .kept)
+
+read-closure-returns-2 : (t : ℕ) → read-closure-lts.Need-returns-2 (read-closure-known t) (read-closure-at t) read-closure.Post
+unfolding shape shapes if_then_else_ shapeOf andThen _>>=_ rowsUnder rootCount cons
+read-closure-returns-2 t c = let g = ran-of (c .before .before .before .before .before .before .before .before .before .before .before .before .before .before .before .before .before .before .before .mid .given .1) (c .before .before .before .before .before .before .before .before .before .before .before .before .before .before .before .before .before .before .before .before .before .before .before .before .before .read-value .ensures) in rw (closure-head (context (c .before .before .before .before .before .before .before .before .before .before .before .before .before .before .before .before .before .before .before .before .before .before .before .before .before .before .before .before .before .before .before .before .before .args .limits) (c .before .before .before .before .before .before .before .before .before .before .before .before .before .before .before .before .before .before .before .before .before .before .before .before .before .before .before .before .before .before .before .before .before .args .bytes .now) (c .before .before .before .before .before .before .before .before .before .before .before .before .before .before .before .before .before .before .before .before .before .before .before .before .before .before .before .before .before .before .before .before .before .args .names .now) (c .before .before .before .before .before .before .before .before .before .before .before .before .before .before .before .before .before .before .before .before .before .before .before .before .before .before .before .before .before .before .before .before .before .args .pool .now)) (readValue (context (c .before .before .before .before .before .before .before .before .before .before .before .before .before .before .before .before .before .before .before .before .before .before .before .before .before .before .before .before .before .before .before .before .before .args .limits) (c .before .before .before .before .before .before .before .before .before .before .before .before .before .before .before .before .before .before .before .before .before .before .before .before .before .before .before .before .before .before .before .before .before .args .bytes .now) (c .before .before .before .before .before .before .before .before .before .before .before .before .before .before .before .before .before .before .before .before .before .before .before .before .before .before .before .before .before .before .before .before .before .args .names .now) (c .before .before .before .before .before .before .before .before .before .before .before .before .before .before .before .before .before .before .before .before .before .before .before .before .before .before .before .before .before .before .before .before .before .args .pool .now)) (c .before .before .before .before .before .before .before .before .before .before .before .before .before .before .before .before .before .before .before .before .before .before .before .before .before .before .before .before .before .before .before .before .before .args .left)) 18 (ItemKind.number u16 ∷ []) (stateOf (c .before .before .before .before .before .before .before .before .before .before .before .before .before .before .before .before .before .before .before .before .before .before .before .before .before .before .before .before .before .before .before .before .before .args .bytes .now) (c .before .before .before .before .before .before .before .before .before .before .before .before .before .before .before .before .before .before .before .before .before .before .before .before .before .before .before .before .before .before .before .before .before .args .state)) (stateOf (c .before .before .before .before .before .before .before .before .before .before .before .before .before .before .before .before .before .before .before .before .before .before .before .before .before .before .before .before .before .before .before .before .before .args .bytes .now) (c .before .before .before .before .before .before .before .before .before .before .before .before .before .before .before .before .before .before .before .mid .given .0 .0)) (g .0) (g .1 .is) (sym (first-tag _ _ _ (g .0) (g .1 .wrote) (omega (arith, c .before .before .before .before .before .before .before .before .before .before .before .before .before .before .before .before .before .before .before .before .before .before .before .before .before .before .before .before .before .before .before .before .before .pre .1 .0, g .1 .size, g .1 .used, some-words (g .0)))) ∙ c .before .before .before .before .before .before .before .before .before .before .before .before .before .before .before .if1 .left), (row-of (c .before .before .before .before .before .before .before .before .before .before .before .before .a .given .1) (c .before .before .before .before .before .before .before .before .before .before .before .before .before .before .read-closure-head .ensures (c .before .before .before .before .before .before .before .before .before .before .before .before .before .before .before .before .before .before .before .before .before .before .before .before .before .before .before .before .before .before .before .before .before .args .names .now) (c .before .before .before .before .before .before .before .before .before .before .before .before .before .before .before .before .before .before .before .before .before .before .before .before .before .before .before .before .before .before .before .before .before .args .pool .now))) .is (capacities (c .before .before .before .before .before .before .before .before .before .before .before .before .before .before .before .before .before .before .before .before .before .before .before .before .before .before .before .before .before .before .before .before .before .args .limits)) .is _ _) (did-closure 18 ((row-of (c .before .before .before .before .before .before .before .before .before .before .before .before .a .given .1) (c .before .before .before .before .before .before .before .before .before .before .before .before .before .before .read-closure-head .ensures (c .before .before .before .before .before .before .before .before .before .before .before .before .before .before .before .before .before .before .before .before .before .before .before .before .before .before .before .before .before .before .before .before .before .args .names .now) (c .before .before .before .before .before .before .before .before .before .before .before .before .before .before .before .before .before .before .before .before .before .before .before .before .before .before .before .before .before .before .before .before .before .args .pool .now))) .items) (18 ∷ (c .before .before .before .before .before .before .before .before .before .before .before .before .a .given .0 .0) ∷ (c .before .before .before .before .before .before .before .before .before .before .before .before .a .given .0 .1 .0) ∷ (c .before .before .before .before .before .before .before .before .before .before .before .before .a .given .0 .1 .1 .0) ∷ (c .before .before .before .before .before .before .before .before .before .before .before .before .a .given .0 .1 .1 .1 .0) ∷ []) (c .before .before .before .before .before .before .before .before .before .before .before .before .before .before .before .before .before .before .before .before .before .before .before .before .before .before .before .before .before .before .before .before .before .pre .1 .1 .1) (g .1) (c .before .before .before .before .before .before .before .before .before .write-row .ensures) refl ((row-of (c .before .before .before .before .before .before .before .before .before .before .before .before .a .given .1) (c .before .before .before .before .before .before .before .before .before .before .before .before .before .before .read-closure-head .ensures (c .before .before .before .before .before .before .before .before .before .before .before .before .before .before .before .before .before .before .before .before .before .before .before .before .before .before .before .before .before .before .before .before .before .args .names .now) (c .before .before .before .before .before .before .before .before .before .before .before .before .before .before .before .before .before .before .before .before .before .before .before .before .before .before .before .before .before .before .before .before .before .args .pool .now))) .no-spans) (λ ts z q. row-told 18 (shapeOf Closure) refl ((row-of (c .before .before .before .before .before .before .before .before .before .before .before .before .a .given .1) (c .before .before .before .before .before .before .before .before .before .before .before .before .before .before .read-closure-head .ensures (c .before .before .before .before .before .before .before .before .before .before .before .before .before .before .before .before .before .before .before .before .before .before .before .before .before .before .before .before .before .before .before .before .before .args .names .now) (c .before .before .before .before .before .before .before .before .before .before .before .before .before .before .before .before .before .before .before .before .before .before .before .before .before .before .before .before .before .before .before .before .before .args .pool .now))) .items) (c .before .before .before .before .before .before .before .before .before .before .before .before .a .given .0 .1 .1 .1 .1 .0) _ ((row-of (c .before .before .before .before .before .before .before .before .before .before .before .before .a .given .1) (c .before .before .before .before .before .before .before .before .before .before .before .before .before .before .read-closure-head .ensures (c .before .before .before .before .before .before .before .before .before .before .before .before .before .before .before .before .before .before .before .before .before .before .before .before .before .before .before .before .before .before .before .before .before .args .names .now) (c .before .before .before .before .before .before .before .before .before .before .before .before .before .before .before .before .before .before .before .before .before .before .before .before .before .before .before .before .before .before .before .before .before .args .pool .now))) .words) ((row-of (c .before .before .before .before .before .before .before .before .before .before .before .before .a .given .1) (c .before .before .before .before .before .before .before .before .before .before .before .before .before .before .read-closure-head .ensures (c .before .before .before .before .before .before .before .before .before .before .before .before .before .before .before .before .before .before .before .before .before .before .before .before .before .before .before .before .before .before .before .before .before .args .names .now) (c .before .before .before .before .before .before .before .before .before .before .before .before .before .before .before .before .before .before .before .before .before .before .before .before .before .before .before .before .before .before .before .before .before .args .pool .now))) .told) (ap suc (sym (many-count (context (c .before .before .before .before .before .before .before .before .before .before .before .before .before .before .before .before .before .before .before .before .before .before .before .before .before .before .before .before .before .before .before .before .before .args .limits) (c .before .before .before .before .before .before .before .before .before .before .before .before .before .before .before .before .before .before .before .before .before .before .before .before .before .before .before .before .before .before .before .before .before .args .bytes .now) (c .before .before .before .before .before .before .before .before .before .before .before .before .before .before .before .before .before .before .before .before .before .before .before .before .before .before .before .before .before .before .before .before .before .args .names .now) (c .before .before .before .before .before .before .before .before .before .before .before .before .before .before .before .before .before .before .before .before .before .before .before .before .before .before .before .before .before .before .before .before .before .args .pool .now)) (readValue (context (c .before .before .before .before .before .before .before .before .before .before .before .before .before .before .before .before .before .before .before .before .before .before .before .before .before .before .before .before .before .before .before .before .before .args .limits) (c .before .before .before .before .before .before .before .before .before .before .before .before .before .before .before .before .before .before .before .before .before .before .before .before .before .before .before .before .before .before .before .before .before .args .bytes .now) (c .before .before .before .before .before .before .before .before .before .before .before .before .before .before .before .before .before .before .before .before .before .before .before .before .before .before .before .before .before .before .before .before .before .args .names .now) (c .before .before .before .before .before .before .before .before .before .before .before .before .before .before .before .before .before .before .before .before .before .before .before .before .before .before .before .before .before .before .before .before .before .args .pool .now)) (c .before .before .before .before .before .before .before .before .before .before .before .before .before .before .before .before .before .before .before .before .before .before .before .before .before .before .before .before .before .before .before .before .before .args .left)) (readValue (context (c .before .before .before .before .before .before .before .before .before .before .before .before .before .before .before .before .before .before .before .before .before .before .before .before .before .before .before .before .before .before .before .before .before .args .limits) (c .before .before .before .before .before .before .before .before .before .before .before .before .before .before .before .before .before .before .before .before .before .before .before .before .before .before .before .before .before .before .before .before .before .args .bytes .now) (c .before .before .before .before .before .before .before .before .before .before .before .before .before .before .before .before .before .before .before .before .before .before .before .before .before .before .before .before .before .before .before .before .before .args .names .now) (c .before .before .before .before .before .before .before .before .before .before .before .before .before .before .before .before .before .before .before .before .before .before .before .before .before .before .before .before .before .before .before .before .before .args .pool .now)) (c .before .before .before .before .before .before .before .before .before .before .before .before .before .before .before .before .before .before .before .before .before .before .before .before .before .before .before .before .before .before .before .before .before .args .left)) _ _ ts z q)))) (c .before .before .before .before .read-values .ensures))
+
+read-closure-returns-3 : (t : ℕ) → read-closure-lts.Need-returns-3 (read-closure-known t) (read-closure-at t) read-closure.Post
+unfolding shape shapes if_then_else_ shapeOf andThen
+read-closure-returns-3 t c = let g = ran-of (c .before .before .before .before .before .before .before .before .mid .given .1) (c .before .before .before .before .before .before .before .before .before .before .before .before .before .before .read-value .ensures) in record { out = rw (closure-head (context (c .before .before .before .before .before .before .before .before .before .before .before .before .before .before .before .before .before .before .before .before .before .before .args .limits) (c .before .before .before .before .before .before .before .before .before .before .before .before .before .before .before .before .before .before .before .before .before .before .args .bytes .now) (c .before .before .before .before .before .before .before .before .before .before .before .before .before .before .before .before .before .before .before .before .before .before .args .names .now) (c .before .before .before .before .before .before .before .before .before .before .before .before .before .before .before .before .before .before .before .before .before .before .args .pool .now)) (readValue (context (c .before .before .before .before .before .before .before .before .before .before .before .before .before .before .before .before .before .before .before .before .before .before .args .limits) (c .before .before .before .before .before .before .before .before .before .before .before .before .before .before .before .before .before .before .before .before .before .before .args .bytes .now) (c .before .before .before .before .before .before .before .before .before .before .before .before .before .before .before .before .before .before .before .before .before .before .args .names .now) (c .before .before .before .before .before .before .before .before .before .before .before .before .before .before .before .before .before .before .before .before .before .before .args .pool .now)) (c .before .before .before .before .before .before .before .before .before .before .before .before .before .before .before .before .before .before .before .before .before .before .args .left)) 18 (ItemKind.number u16 ∷ []) (stateOf (c .before .before .before .before .before .before .before .before .before .before .before .before .before .before .before .before .before .before .before .before .before .before .args .bytes .now) (c .before .before .before .before .before .before .before .before .before .before .before .before .before .before .before .before .before .before .before .before .before .before .args .state)) (stateOf (c .before .before .before .before .before .before .before .before .before .before .before .before .before .before .before .before .before .before .before .before .before .before .args .bytes .now) (c .before .before .before .before .before .before .before .before .mid .given .0 .0)) (g .0) (g .1 .is) (sym (first-tag _ _ _ (g .0) (g .1 .wrote) (omega (arith, c .before .before .before .before .before .before .before .before .before .before .before .before .before .before .before .before .before .before .before .before .before .before .pre .1 .0, g .1 .size, g .1 .used, some-words (g .0)))) ∙ c .before .before .before .before .if1 .left), (no-row (c .before .n .given .1) (c .before .before .before .read-closure-head .ensures (c .before .before .before .before .before .before .before .before .before .before .before .before .before .before .before .before .before .before .before .before .before .before .args .names .now) (c .before .before .before .before .before .before .before .before .before .before .before .before .before .before .before .before .before .before .before .before .before .before .args .pool .now))) (capacities (c .before .before .before .before .before .before .before .before .before .before .before .before .before .before .before .before .before .before .before .before .before .before .args .limits)) .is _ _) }
+
+read-closure-returns-4 : (t : ℕ) → read-closure-lts.Need-returns-4 (read-closure-known t) (read-closure-at t) read-closure.Post
+unfolding shape shapes if_then_else_ shapeOf
+read-closure-returns-4 t c = record { out = closure-no (context (c .before .before .before .before .before .before .before .before .before .before .before .before .before .before .before .args .limits) (c .before .before .before .before .before .before .before .before .before .before .before .before .before .before .before .args .bytes .now) (c .before .before .before .before .before .before .before .before .before .before .before .before .before .before .before .args .names .now) (c .before .before .before .before .before .before .before .before .before .before .before .before .before .before .before .args .pool .now)) (readValue (context (c .before .before .before .before .before .before .before .before .before .before .before .before .before .before .before .args .limits) (c .before .before .before .before .before .before .before .before .before .before .before .before .before .before .before .args .bytes .now) (c .before .before .before .before .before .before .before .before .before .before .before .before .before .before .before .args .names .now) (c .before .before .before .before .before .before .before .before .before .before .before .before .before .before .before .args .pool .now)) (c .before .before .before .before .before .before .before .before .before .before .before .before .before .before .before .args .left)) 18 (ItemKind.number u16 ∷ []) (stateOf (c .before .before .before .before .before .before .before .before .before .before .before .before .before .before .before .args .bytes .now) (c .before .before .before .before .before .before .before .before .before .before .before .before .before .before .before .args .state)) (no-of (c .before .n2 .given .1) (c .before .before .before .before .before .before .before .read-value .ensures)) }
+
+pub read-closure-meets : {M : Type 1} (t : ℕ) → read-closure-lts.Closed (read-closure-known t) (read-closure-at t) read-closure.Post M
+read-closure-meets t = read-closure-lts.spec (read-closure-known t) (read-closure-at t)
+    read-closure.Post
+    (λ c κs. search needs)
+    (λ c. search needs)
+    (λ c. search needs)
+    (λ c. search needs)
+    (read-closure-slice-read-if1 t)
+    (λ c. search needs)
+    (λ c. search needs)
+    (read-closure-returns t)
+    (λ c κs. search needs)
+    (λ c. search needs)
+    (read-closure-write-row-requires t)
+    (read-closure-read-values-requires t)
+    (λ c. search needs)
+    (λ c. search needs)
+    (read-closure-same-length-3 t)
+    (λ c. search needs)
+    (read-closure-returns-2 t)
+    (λ c. search needs)
+    (λ c. search needs)
+    (read-closure-returns-3 t)
+    (λ c. search needs)
+    (λ c. search needs)
+    (read-closure-returns-4 t)

@@ -1,0 +1,5 @@
+pub mod Under
+pub mod Told
+pub mod Did
+pub mod Keys
+pub mod Laws
