@@ -1,8 +1,9 @@
 -- The shape of a row by its tag, as numbers that the code keeps in tables.
 use mathlib.Core.List.{List, [], _∷_}
-use Prim.Native.Nat.{ℕ, _+_}
+use Prim.Native.Nat.{ℕ, suc, _+_}
+use lib.ListN.{length}
 use Rattle.payload.specs.Numbers.{NumberKind, u64, u32, u16, u8, i64, i32, i16, i8, bool, char, handle, f64, f32}
-use Rattle.payload.specs.Rows.{kindWidth, kindsWidth}
+use Rattle.payload.specs.Rows.{countWords, kindWidth, kindsWidth}
 use Rattle.payload.specs.Shapes.{ItemKind, Kids, noValue, oneValue, values, keys, pairs, Shape, withKids, withChunk, withFields, withTemplate, shape, kindsOf}
 
 -- how a number is written: 1 as it is, 2 by zigzag, 3 one byte, 4 eight bytes, 5 four bytes
@@ -58,6 +59,53 @@ shapeForm (withChunk ks) = 1
 shapeForm (withFields ks) = 2
 shapeForm (withTemplate ks) = 4
 
+-- the test that a number must pass: 1 none, 2 32 bits, 3 16 bits, 4 a byte, 5 a bool, 6 a handle's kind, 7 a Unicode scalar, 8, 9, 10 a signed number of 32, 16, 8 bits
+unfoldable pub numberTest : NumberKind → ℕ
+numberTest u64 = 1
+numberTest i64 = 1
+numberTest f64 = 1
+numberTest u32 = 2
+numberTest f32 = 2
+numberTest u16 = 3
+numberTest u8 = 4
+numberTest bool = 5
+numberTest handle = 6
+numberTest char = 7
+numberTest i32 = 8
+numberTest i16 = 9
+numberTest i8 = 10
+
+-- an item's: 11 a string, 12 code
+unfoldable pub itemTest : ItemKind → ℕ
+itemTest (ItemKind.number k) = numberTest k
+itemTest ItemKind.string = 11
+itemTest ItemKind.nativeName = 11
+itemTest ItemKind.recordName = 11
+itemTest ItemKind.code = 12
+
+-- 0 where there is no item
+unfoldable pub firstTestOf : List ItemKind → ℕ
+firstTestOf [] = 0
+firstTestOf (k ∷ ks) = itemTest k
+
+unfoldable pub secondTestOf : List ItemKind → ℕ
+secondTestOf [] = 0
+secondTestOf (k ∷ ks) = firstTestOf ks
+
+-- the rules of the rows under a row: 0 nothing, 1 one value, 2 values, 3 keys, 4 pairs of key and value, 5 a chunk, 6 fields, 7 a function and values
+unfoldable pub kidsRules : Kids → ℕ
+kidsRules noValue = 0
+kidsRules oneValue = 1
+kidsRules values = 2
+kidsRules keys = 3
+kidsRules pairs = 4
+
+unfoldable pub shapeRules : Shape → ℕ
+shapeRules (withKids ks kk) = kidsRules kk
+shapeRules (withChunk ks) = 5
+shapeRules (withFields ks) = 6
+shapeRules (withTemplate ks) = 7
+
 ---- by tag
 
 unfoldable pub firstForm : ℕ → ℕ
@@ -75,3 +123,16 @@ underForm t = shapeForm (shape t)
 -- the word of the count
 unfoldable pub countWord : ℕ → ℕ
 countWord t = 1 + kindsWidth (kindsOf (shape t))
+
+unfoldable pub firstTest : ℕ → ℕ
+firstTest t = firstTestOf (kindsOf (shape t))
+
+unfoldable pub secondTest : ℕ → ℕ
+secondTest t = secondTestOf (kindsOf (shape t))
+
+unfoldable pub underRules : ℕ → ℕ
+underRules t = shapeRules (shape t)
+
+-- how many words are used: tag, items, count
+unfoldable pub usedWords : ℕ → ℕ
+usedWords t = suc (kindsWidth (kindsOf (shape t)) + length (countWords (shape t) 0))

@@ -1,0 +1,49 @@
+-- `scan_rows::zero_from` meets its contract: what is left to test makes the whole.
+use mathlib.Core.Path.{_≡_, refl, sym, _∙_}
+use Prim.Native.Nat.{_-_}
+use borrow.Author.Needs.{needs}
+use Rattle.scan_rows.specs.Laws.Fits.{zeros-more, zeros-stop, zeros-end}
+use Rattle.scan_rows.specs.Row.{zerosFrom}
+use Rattle.scan_rows.proofs.zero_from.Statement.{statement}
+use Rattle.scan_rows.proofs.zero_from.Tie as tie
+
+abbrev Inv-loop : tie.InvT-loop
+Inv-loop rows i k j₀ j = zerosFrom rows i k (5 - k) ≡ zerosFrom rows i j (5 - j)
+
+abbrev μ-loop : tie.MeasureT-loop
+μ-loop rows i k j₀ j = 5 - j
+
+loop-holds : tie.Need-loop-holds Inv-loop μ-loop
+loop-holds c = refl
+
+word-at-requires : tie.Need-word-at-requires Inv-loop μ-loop
+word-at-requires c κs = search needs
+
+returns : tie.Need-returns Inv-loop μ-loop
+returns c = sym (c .before .before .before .loop .inv ∙ zeros-stop (c .before .before .before .before .before .args .rows .now) (c .before .before .before .before .before .args .i) (c .before .before .before .loop .j) (c .before .before .loop-test .taken) (λ e. c .if1 .taken (c .before .word-at .ensures .0 ∙ e)))
+
+add-j : tie.Need-add-j Inv-loop μ-loop
+add-j c = search needs
+
+loop-less : tie.Need-loop-less Inv-loop μ-loop
+loop-less c = search needs
+
+loop-again : tie.Need-loop-again Inv-loop μ-loop
+loop-again c = c .before .before .before .loop .inv ∙ zeros-more (c .before .before .before .before .before .args .rows .now) (c .before .before .before .before .before .args .i) (c .before .before .before .loop .j) (c .before .before .loop-test .taken) (sym (c .before .word-at .ensures .0) ∙ c .if1 .left)
+
+returns-2 : tie.Need-returns-2 Inv-loop μ-loop
+returns-2 c = sym (c .before .loop .inv ∙ zeros-end (c .before .before .before .args .rows .now) (c .before .before .before .args .i) (c .before .loop .j) (c .loop-test .left))
+
+pub zero-from-spec : {M : Type 1} → statement M
+zero-from-spec =
+    tie.close
+    (tie.spec
+    Inv-loop
+    μ-loop
+    loop-holds
+    word-at-requires
+    returns
+    add-j
+    loop-less
+    loop-again
+    returns-2)

@@ -1,0 +1,11 @@
+pub mod Steps
+pub mod Row
+pub mod Fits
+pub mod Under
+pub mod Found
+pub mod Keys
+pub mod Value
+pub mod Entries
+pub mod Members
+pub mod Code
+pub mod Script
