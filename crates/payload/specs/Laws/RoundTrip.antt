@@ -74,8 +74,8 @@ module _ (e : Context) (l : List (List ℕ)) (pool-is : map (λ (x : Part). x .b
   abbrev c : Capacities
   c = e .capacities
 
-  abbrev ok? : Item (List ℕ) → Bool
-  ok? = itemReadable (e .listed) l
+  abbrev readable : Item (List ℕ) → Bool
+  readable = itemReadable (e .listed) l
 
   pub gives-index : (b : List ℕ) → isIn b l ≡ true → Gives c (readPoolIndex e) (uleb128 (indexOf b l)) 0 0 (λ a. a .bytes ≡ b)
   unfolding readPoolIndex
@@ -88,7 +88,7 @@ module _ (e : Context) (l : List (List ℕ)) (pool-is : map (λ (x : Part). x .b
       (gives-pure _ (λ a. a .bytes ≡ b) (getD-bytes (e .pool) (indexOf b l) _ ∙ rw pool-is (indexOf-at b l [] h)))))
       (simp append-nil) refl refl)
 
-  gives-item : (i : Item (List ℕ)) → ok? i ≡ true → Gives c (readItem e (kindOf i)) (writeItem l i) 0 (spanItem i) (λ a. forgetItem a ≡ i)
+  gives-item : (i : Item (List ℕ)) → readable i ≡ true → Gives c (readItem e (kindOf i)) (writeItem l i) 0 (spanItem i) (λ a. forgetItem a ≡ i)
   unfolding readItem kindOf writeItem spanItem forgetItem itemReadable
   gives-item (number k w) h = gives-as (gives-is _ (gives-number k w h) (gives-pure _ (λ a. forgetItem a ≡ number k w) refl)) (simp append-nil) refl refl
   gives-item (string b) h = gives-as (gives-bind (gives-index b h) (λ a q. gives-pure _ (λ a. forgetItem a ≡ string b) (ap string q))) (simp append-nil) refl refl
@@ -98,10 +98,10 @@ module _ (e : Context) (l : List (List ℕ)) (pool-is : map (λ (x : Part). x .b
   gives-item (code b ss) h = gives-fits (λ hr hs. gives-as (gives-bind (gives-code b ss (eqb-true _ _ (and-left _ _ h)) (omega arith) (and-right _ _ h)) (λ a q.
       gives-pure _ (λ a. forgetItem a ≡ code b ss) (ap₂ code (q .0) (q .1)))) (simp append-nil) refl (omega arith))
 
-  gives-item-of : (k : ItemKind) (i : Item (List ℕ)) → sameKind k (kindOf i) ≡ true → ok? i ≡ true → Gives c (readItem e k) (writeItem l i) 0 (spanItem i) (λ a. forgetItem a ≡ i)
+  gives-item-of : (k : ItemKind) (i : Item (List ℕ)) → sameKind k (kindOf i) ≡ true → readable i ≡ true → Gives c (readItem e k) (writeItem l i) 0 (spanItem i) (λ a. forgetItem a ≡ i)
   gives-item-of k i q h = rw (sameKind-eq k (kindOf i) q) (gives-item i h)
 
-  gives-items : (ks : List ItemKind) (is : List (Item (List ℕ))) → sameKinds ks is ≡ true → allOf ok? is ≡ true → Gives c (readItems e ks) (writeItems l is) 0 (spanItems is) (λ a. forgetItems a ≡ is)
+  gives-items : (ks : List ItemKind) (is : List (Item (List ℕ))) → sameKinds ks is ≡ true → allOf readable is ≡ true → Gives c (readItems e ks) (writeItems l is) 0 (spanItems is) (λ a. forgetItems a ≡ is)
   unfolding readItems writeItems spanItems sameKinds allOf forgetItems
   gives-items [] [] q h = gives-pure [] (λ a. forgetItems a ≡ []) refl
   gives-items [] (i ∷ is) q h = false≢true q
@@ -113,7 +113,7 @@ module _ (e : Context) (l : List (List ℕ)) (pool-is : map (λ (x : Part). x .b
 
   -- r reads, with d levels left, each tree whose tag passes g
   abbrev Reads : (ℕ → Bool) → ℕ → Reader (Node Part) → Type 0
-  Reads g d r = (t : ℕ) (is : List (Item (List ℕ))) (ks : Trees (List ℕ)) → g t ≡ true → obeyRules d (node t is ks nil) ≡ true → allItems ok? (node t is ks nil) ≡ true
+  Reads g d r = (t : ℕ) (is : List (Item (List ℕ))) (ks : Trees (List ℕ)) → g t ≡ true → obeyRules d (node t is ks nil) ≡ true → allItems readable (node t is ks nil) ≡ true
       → Gives c r (tagByte t ++ writeRow (writeItems l is) (shape t) (writeTrees l ks)) (suc (size ks)) (spanItems is + spanCount ks) (λ u. forgetNode u ≡ nodeOf t is ks)
 
   first-shaped : (d t : ℕ) (is : List (Item (List ℕ))) (ks ts : Trees (List ℕ)) → obeyRules d (node t is ks ts) ≡ true → obeyRules d (node t is ks nil) ≡ true
@@ -124,15 +124,15 @@ module _ (e : Context) (l : List (List ℕ)) (pool-is : map (λ (x : Part). x .b
   unfolding obeyRules
   rest-shaped d t is ks ts h = and-right _ _ (and-right _ _ h)
 
-  first-fine : (t : ℕ) (is : List (Item (List ℕ))) (ks ts : Trees (List ℕ)) → allItems ok? (node t is ks ts) ≡ true → allItems ok? (node t is ks nil) ≡ true
+  first-fine : (t : ℕ) (is : List (Item (List ℕ))) (ks ts : Trees (List ℕ)) → allItems readable (node t is ks ts) ≡ true → allItems readable (node t is ks nil) ≡ true
   unfolding allItems
   first-fine t is ks ts h = and-both (and-left _ _ h) (and-both (and-left _ _ (and-right _ _ h)) refl)
 
-  rest-fine : (t : ℕ) (is : List (Item (List ℕ))) (ks ts : Trees (List ℕ)) → allItems ok? (node t is ks ts) ≡ true → allItems ok? ts ≡ true
+  rest-fine : (t : ℕ) (is : List (Item (List ℕ))) (ks ts : Trees (List ℕ)) → allItems readable (node t is ks ts) ≡ true → allItems readable ts ≡ true
   unfolding allItems
   rest-fine t is ks ts h = and-right _ _ (and-right _ _ h)
 
-  gives-times : (g : ℕ → Bool) (d : ℕ) (r : Reader (Node Part)) → Reads g d r → (ts : Trees (List ℕ)) → allTags g (roots ts) ≡ true → obeyRules d ts ≡ true → allItems ok? ts ≡ true
+  gives-times : (g : ℕ → Bool) (d : ℕ) (r : Reader (Node Part)) → Reads g d r → (ts : Trees (List ℕ)) → allTags g (roots ts) ≡ true → obeyRules d ts ≡ true → allItems readable ts ≡ true
       → Gives c (readMany (length (writeTrees l ts)) r) (concat (writeTrees l ts)) (size ts) (spanCount ts) (λ us. forgetTrees us ≡ ts)
   unfolding readMany writeTrees concat size spanCount allTags roots forgetTrees
   gives-times g d r R nil q s h = gives-pure nil (λ us. forgetTrees us ≡ nil) refl
@@ -156,7 +156,7 @@ module _ (e : Context) (l : List (List ℕ)) (pool-is : map (λ (x : Part). x .b
   key-bytes u t is ks q = ap₂ keyOf (ap (λ (n : Node (List ℕ)). n .tag) (sym q)) (ap (λ (n : Node (List ℕ)). n .items) (sym q))
 
   gives-times-keys : (d : ℕ) (r : Reader (Node Part)) → Reads isValueTag d r → (seen : List (List ℕ)) (ts : Trees (List ℕ)) → allValues (roots ts) ≡ true → distinctKeys seen (roots ts) ≡ true
-      → obeyRules d ts ≡ true → allItems ok? ts ≡ true
+      → obeyRules d ts ≡ true → allItems readable ts ≡ true
       → Gives c (readKeys (length (writeTrees l ts)) seen r) (concat (writeTrees l ts)) (size ts) (spanCount ts) (λ us. forgetTrees us ≡ ts)
   unfolding readKeys writeTrees concat size spanCount allTags roots forgetTrees distinctKeys
   gives-times-keys d r R seen nil q w s h = gives-pure nil (λ us. forgetTrees us ≡ nil) refl
@@ -199,8 +199,8 @@ module _ (e : Context) (l : List (List ℕ)) (pool-is : map (λ (x : Part). x .b
 
   -- one pair, before the pairs that follow
   gives-pair : (d n : ℕ) (r : Reader (Node Part)) → Reads isValueTag d r → (seen : List (List ℕ)) (t : ℕ) (is : List (Item (List ℕ))) (ks : Trees (List ℕ)) (t′ : ℕ) (is′ : List (Item (List ℕ))) (ks′ ts : Trees (List ℕ))
-      → isValueTag t ≡ true → obeyRules d (node t is ks nil) ≡ true → allItems ok? (node t is ks nil) ≡ true
-      → isValueTag t′ ≡ true → obeyRules d (node t′ is′ ks′ nil) ≡ true → allItems ok? (node t′ is′ ks′ nil) ≡ true
+      → isValueTag t ≡ true → obeyRules d (node t is ks nil) ≡ true → allItems readable (node t is ks nil) ≡ true
+      → isValueTag t′ ≡ true → obeyRules d (node t′ is′ ks′ nil) ≡ true → allItems readable (node t′ is′ ks′ nil) ≡ true
       → isKeyTag t ≡ true → not (isIn (keyOf t is) seen) ≡ true
       → ((u : Node Part) → keyOf t is ≡ nodeKey u → Gives c (readPairs n (nodeKey u ∷ seen) r) (concat (writeTrees l ts)) (size ts) (spanCount ts) (λ us. forgetTrees us ≡ ts))
       → Gives c (readPairs (suc n) seen r) (concat (writeTrees l (node t is ks (node t′ is′ ks′ ts)))) (size (node t is ks (node t′ is′ ks′ ts))) (spanCount (node t is ks (node t′ is′ ks′ ts)))
@@ -216,7 +216,7 @@ module _ (e : Context) (l : List (List ℕ)) (pool-is : map (λ (x : Part). x .b
       (simp append-nil) (omega arith) (omega arith))
 
   gives-times-pairs : (d : ℕ) (r : Reader (Node Part)) → Reads isValueTag d r → (seen : List (List ℕ)) (ts : Trees (List ℕ)) → allValues (roots ts) ≡ true → distinctPairs seen (roots ts) ≡ true
-      → obeyRules d ts ≡ true → allItems ok? ts ≡ true
+      → obeyRules d ts ≡ true → allItems readable ts ≡ true
       → Gives c (readPairs (length (writeTrees l ts) / 2) seen r) (concat (writeTrees l ts)) (size ts) (spanCount ts) (λ us. forgetTrees us ≡ ts)
   gives-times-pairs d r R seen nil q w s h = unfold readPairs writeTrees concat size spanCount forgetTrees in (gives-pure nil (λ us. forgetTrees us ≡ nil) refl)
   gives-times-pairs d r R seen (node t is ks nil) q w s h = unfold distinctPairs roots in (false≢true w)
@@ -243,7 +243,7 @@ module _ (e : Context) (l : List (List ℕ)) (pool-is : map (λ (x : Part). x .b
   gives-none nil q = gives-pure nil (λ us. forgetTrees us ≡ nil) refl
   gives-none (node t is ks ts) q = no-roots (length (roots ts)) q
 
-  gives-one : (d : ℕ) (r : Reader (Node Part)) (g : ℕ → Bool) → Reads g d r → (ts : Trees (List ℕ)) → (eqb (length (roots ts)) 1 and allTags g (roots ts)) ≡ true → obeyRules d ts ≡ true → allItems ok? ts ≡ true
+  gives-one : (d : ℕ) (r : Reader (Node Part)) (g : ℕ → Bool) → Reads g d r → (ts : Trees (List ℕ)) → (eqb (length (roots ts)) 1 and allTags g (roots ts)) ≡ true → obeyRules d ts ≡ true → allItems readable ts ≡ true
       → Gives c (readOne r) (concat (writeTrees l ts)) (size ts) (spanCount ts) (λ us. forgetTrees us ≡ ts)
   unfolding readOne writeTrees concat size spanCount forgetTrees roots allTags _and_
   gives-one d r g R nil q s h = false≢true q
@@ -253,7 +253,7 @@ module _ (e : Context) (l : List (List ℕ)) (pool-is : map (λ (x : Part). x .b
       refl (omega arith) (omega arith)
   gives-one d r g R (node t is ks (node t′ is′ ks′ ts)) q s h = one-root (length (roots ts)) (and-left _ _ q)
 
-  gives-kids : (d : ℕ) (r : Reader (Node Part)) → Reads isValueTag d r → (kk : Kids) (ts : Trees (List ℕ)) → kidsRule kk (roots ts) ≡ true → obeyRules d ts ≡ true → allItems ok? ts ≡ true
+  gives-kids : (d : ℕ) (r : Reader (Node Part)) → Reads isValueTag d r → (kk : Kids) (ts : Trees (List ℕ)) → kidsRule kk (roots ts) ≡ true → obeyRules d ts ≡ true → allItems readable ts ≡ true
       → Gives c (readKids r kk) (writeKids kk (writeTrees l ts)) (size ts) (spanCount ts) (λ us. forgetTrees us ≡ ts)
   unfolding readKids writeKids kidsRule
   gives-kids d r R noValue ts q s h = gives-none ts q
@@ -265,7 +265,7 @@ module _ (e : Context) (l : List (List ℕ)) (pool-is : map (λ (x : Part). x .b
 
   -- the items, and the kids
   gives-vals : (d : ℕ) (r : Reader (Node Part)) → Reads isValueTag d r → (t : ℕ) (kn : List ItemKind) (kk : Kids) (is : List (Item (List ℕ))) (ks : Trees (List ℕ))
-      → sameKinds kn is ≡ true → kidsRule kk (roots ks) ≡ true → obeyRules d ks ≡ true → allOf ok? is ≡ true → allItems ok? ks ≡ true
+      → sameKinds kn is ≡ true → kidsRule kk (roots ks) ≡ true → obeyRules d ks ≡ true → allOf readable is ≡ true → allItems readable ks ≡ true
       → Gives c (readItems e kn >>= λ js. readKids r kk >>= λ us. pure (nodeOf t js us)) (writeItems l is ++ writeKids kk (writeTrees l ks)) (size ks) (spanItems is + spanCount ks) (λ u. forgetNode u ≡ nodeOf t is ks)
   unfolding forgetNode nodeOf
   gives-vals d r R t kn kk is ks a q s h g = gives-as
@@ -275,12 +275,12 @@ module _ (e : Context) (l : List (List ℕ)) (pool-is : map (λ (x : Part). x .b
       (simp append-nil) (omega arith) (omega arith)
 
   gives-wrapped : (d : ℕ) (r : Reader (Node Part)) → Reads isValueTag d r → (t : ℕ) (kn : List ItemKind) (kk : Kids) (is : List (Item (List ℕ))) (ks : Trees (List ℕ))
-      → sameKinds kn is ≡ true → kidsRule kk (roots ks) ≡ true → obeyRules d ks ≡ true → allOf ok? is ≡ true → allItems ok? ks ≡ true
+      → sameKinds kn is ≡ true → kidsRule kk (roots ks) ≡ true → obeyRules d ks ≡ true → allOf readable is ≡ true → allItems readable ks ≡ true
       → Gives c (readUntagged e r t kn kk) (writeItems l is ++ writeKids kk (writeTrees l ks)) (suc (size ks)) (spanItems is + spanCount ks) (λ u. forgetNode u ≡ nodeOf t is ks)
   unfolding readUntagged
   gives-wrapped d r R t kn kk is ks a q s h g = gives-as (gives-then gives-row (gives-vals d r R t kn kk is ks a q s h g)) refl (omega arith) (omega arith)
 
-  pub chunk-is : (d : ℕ) (r : Reader (Node Part)) → Reads isValueTag d r → (is : List (Item (List ℕ))) (ks : Trees (List ℕ)) → obeyRules d (node 32 is ks nil) ≡ true → allItems ok? (node 32 is ks nil) ≡ true
+  pub chunk-is : (d : ℕ) (r : Reader (Node Part)) → Reads isValueTag d r → (is : List (Item (List ℕ))) (ks : Trees (List ℕ)) → obeyRules d (node 32 is ks nil) ≡ true → allItems readable (node 32 is ks nil) ≡ true
       → Gives c (readUntagged e r 32 (ItemKind.code ∷ []) values) (tagByte 32 ++ writeRow (writeItems l is) (shape 32) (writeTrees l ks)) (suc (size ks)) (spanItems is + spanCount ks) (λ u. forgetNode u ≡ nodeOf 32 is ks)
   unfolding obeyRules shape allItems tagByte writeRow if_then_else_ rowRule
   chunk-is d r R is ks s h = gives-wrapped d r R 32 (ItemKind.code ∷ []) values is ks (and-left _ _ (and-left _ _ s)) (and-right _ _ (and-left _ _ s))
@@ -289,7 +289,7 @@ module _ (e : Context) (l : List (List ℕ)) (pool-is : map (λ (x : Part). x .b
   pub reads-chunk : (d : ℕ) (r : Reader (Node Part)) → Reads isValueTag d r → Reads (isTag 32) d (readUntagged e r 32 (ItemKind.code ∷ []) values)
   reads-chunk d r R t is ks q s h = let z = eqb-true t 32 q in rw z (chunk-is d r R is ks (rw z at s) (rw z at h))
 
-  field-is : (d : ℕ) (r : Reader (Node Part)) → Reads isValueTag d r → (is : List (Item (List ℕ))) (ks : Trees (List ℕ)) → obeyRules d (node 33 is ks nil) ≡ true → allItems ok? (node 33 is ks nil) ≡ true
+  field-is : (d : ℕ) (r : Reader (Node Part)) → Reads isValueTag d r → (is : List (Item (List ℕ))) (ks : Trees (List ℕ)) → obeyRules d (node 33 is ks nil) ≡ true → allItems readable (node 33 is ks nil) ≡ true
       → Gives c (readUntagged e r 33 (ItemKind.string ∷ []) oneValue) (tagByte 33 ++ writeRow (writeItems l is) (shape 33) (writeTrees l ks)) (suc (size ks)) (spanItems is + spanCount ks) (λ u. forgetNode u ≡ nodeOf 33 is ks)
   unfolding obeyRules shape allItems tagByte writeRow if_then_else_ rowRule
   field-is d r R is ks s h = gives-wrapped d r R 33 (ItemKind.string ∷ []) oneValue is ks (and-left _ _ (and-left _ _ s)) (and-right _ _ (and-left _ _ s))
@@ -300,7 +300,7 @@ module _ (e : Context) (l : List (List ℕ)) (pool-is : map (λ (x : Part). x .b
 
   -- a row after its tag
   gives-closure : (d : ℕ) (r : Reader (Node Part)) → Reads isValueTag d r → (t : ℕ) (kn : List ItemKind) (is : List (Item (List ℕ))) (ks : Trees (List ℕ))
-      → rowRule (withTemplate kn) is (roots ks) ≡ true → obeyRules d ks ≡ true → allOf ok? is ≡ true → allItems ok? ks ≡ true
+      → rowRule (withTemplate kn) is (roots ks) ≡ true → obeyRules d ks ≡ true → allOf readable is ≡ true → allItems readable ks ≡ true
       → Gives c (readShape e r t (withTemplate kn)) (writeRow (writeItems l is) (withTemplate kn) (writeTrees l ks)) (size ks) (spanItems is + spanCount ks) (λ u. forgetNode u ≡ nodeOf t is ks)
   unfolding readShape writeRow rowRule writeTrees size spanCount roots
   gives-closure d r R t kn is nil q s h g = false≢true q
@@ -320,7 +320,7 @@ module _ (e : Context) (l : List (List ℕ)) (pool-is : map (λ (x : Part). x .b
       tag-7 f n is ks z w = rw (node-tag f n is ks z) w
 
   gives-shape : (d : ℕ) (r : Reader (Node Part)) → Reads isValueTag d r → (t : ℕ) (sh : Shape) (is : List (Item (List ℕ))) (ks : Trees (List ℕ))
-      → rowRule sh is (roots ks) ≡ true → obeyRules d ks ≡ true → allOf ok? is ≡ true → allItems ok? ks ≡ true
+      → rowRule sh is (roots ks) ≡ true → obeyRules d ks ≡ true → allOf readable is ≡ true → allItems readable ks ≡ true
       → Gives c (readShape e r t sh) (writeRow (writeItems l is) sh (writeTrees l ks)) (size ks) (spanItems is + spanCount ks) (λ u. forgetNode u ≡ nodeOf t is ks)
   unfolding readShape writeRow rowRule
   gives-shape d r R t (withKids kn kk) is ks q s h g = gives-vals d r R t kn kk is ks (and-left _ _ q) (and-right _ _ q) s h g
@@ -350,12 +350,12 @@ module _ (e : Context) (l : List (List ℕ)) (pool-is : map (λ (x : Part). x .b
     unfolding obeyRules if_then_else_
     shaped-deep = rw q at (and-left _ _ (and-right _ _ s))
 
-  module _ (t : ℕ) (is : List (Item (List ℕ))) (ks : Trees (List ℕ)) (h : allItems ok? (node t is ks nil) ≡ true) where
-    items-fine : allOf ok? is ≡ true
+  module _ (t : ℕ) (is : List (Item (List ℕ))) (ks : Trees (List ℕ)) (h : allItems readable (node t is ks nil) ≡ true) where
+    items-fine : allOf readable is ≡ true
     unfolding allItems
     items-fine = and-left _ _ h
 
-    kids-fine : allItems ok? ks ≡ true
+    kids-fine : allItems readable ks ≡ true
     unfolding allItems
     kids-fine = and-left _ _ (and-right _ _ h)
 
