@@ -3,6 +3,7 @@ pub mod Context
 pub mod Numbers
 pub mod Positions
 pub mod Class
+pub mod Scalars
 pub mod Heads
 pub mod Following
 pub mod Laws

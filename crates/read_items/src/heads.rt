@@ -6,7 +6,10 @@ ghost use lib.ListN.{length};
 ghost use Rattle.payload.specs.Shapes.{shape};
 ghost use Rattle.read_items.specs.Context.{PoolFits};
 ghost use Rattle.read_items.specs.Class.{shapeOf};
+ghost use Rattle.scalar.specs.Scalar.{constOf, row, rowOf};
 ghost use Rattle.read_items.specs.Heads.{ReadsHead, numberHead, countHead, partHead};
+ghost use Rattle.read_items.specs.Scalars.{FitsScalar};
+ghost use Rattle.read_items.specs.declared.Head.the-variants.{Row};
 use crate::Class;
 use crate::Cut;
 use crate::Head;
@@ -51,12 +54,39 @@ pub fn class_of(tag: u64) -> Class
     }
 }
 
-fn number_head(number: Number) -> Head
+// The row of a scalar: its words become one of the fourteen cases, and the case gives the row's words, bit by bit.
+fn scalar_row(tag: u64, a: u64, b: u64, next: usize) -> Head
+    requires { ⌜ rowOf (constOf tag a b) ≡ row tag a b ⌝ }
+    ensures { λ r. ⌜ r ≡ Row a b 0 0 0 next ⌝ }
+{
+    let words = scalar::through_row(tag, a, b);
+    Head::Row(words.a, words.b, 0, 0, 0, next)
+}
+
+fn scalar_head(tag: u64, number: Number) -> Head
+    requires { ⌜ FitsScalar tag number ⌝ }
     ensures { λ r. ⌜ r ≡ numberHead number ⌝ }
 {
     match number {
-        Number::Read(w, next) => Head::Row(w, 0, 0, 0, 0, next),
+        Number::Read(w, next) => scalar_row(tag, w, 0, next),
         Number::Refused(n, q) => Head::Refused(n, q),
+    }
+}
+
+// A scalar that is a varint, cut. Each arm names its tag, so that little is left of the way through the case.
+fn read_varint_head(cut: Cut, bytes: &[u8], at: usize) -> Head
+    requires { ⌜ at ≤ length (now bytes) ⌝ }
+    ensures { λ r. ⌜ ((names pool : List ℕ) → ReadsHead (now (bytes .entry)) names pool at (shapeOf (Class.Varint cut)) r) ⌝ }
+{
+    let number = numbers::read_cut(cut, bytes, at);
+    match cut {
+        Cut::I64 => scalar_head(1, number),
+        Cut::U64 => scalar_head(19, number),
+        Cut::I32 => scalar_head(20, number),
+        Cut::U32 => scalar_head(21, number),
+        Cut::U16 => scalar_head(22, number),
+        Cut::I16 => scalar_head(23, number),
+        Cut::I8 => scalar_head(24, number),
     }
 }
 
@@ -158,11 +188,12 @@ pub fn read_closure_head(bytes: &[u8], at: usize) -> Head
 
 // A handle's kind and id.
 fn read_handle_head(bytes: &[u8], at: usize) -> Head
+    requires { ⌜ at ≤ length (now bytes) ⌝ }
     ensures { λ r. ⌜ ((names pool : List ℕ) → ReadsHead (now (bytes .entry)) names pool at (shapeOf Class.Handle) r) ⌝ }
 {
     match numbers::read_handle_kind(bytes, at) {
         Number::Read(kind, mid) => match items::read_uvarint(bytes, mid) {
-            Number::Read(id, next) => Head::Row(kind, id, 0, 0, 0, next),
+            Number::Read(id, next) => scalar_row(26, kind, id, next),
             Number::Refused(n, q) => Head::Refused(n, q),
         },
         Number::Refused(n, q) => Head::Refused(n, q),
@@ -183,13 +214,13 @@ pub fn read_head(class: Class, bytes: &[u8], names: &[u8], pool: &[u64], at: usi
     ensures { λ r. ⌜ ReadsHead (now (bytes .entry)) (now (names .entry)) (now (pool .entry)) at (shapeOf class) r ⌝ }
 {
     match class {
-        Class::Empty => Head::Row(0, 0, 0, 0, 0, at),
-        Class::Varint(cut) => number_head(numbers::read_cut(cut, bytes, at)),
-        Class::Byte => number_head(items::read_byte(bytes, at)),
-        Class::Bool => number_head(numbers::read_bool(bytes, at)),
-        Class::Char => number_head(numbers::read_char(bytes, at)),
-        Class::Float => number_head(numbers::read_f64(bytes, at)),
-        Class::SFloat => number_head(numbers::read_f32(bytes, at)),
+        Class::Empty => scalar_row(0, 0, 0, at),
+        Class::Varint(cut) => read_varint_head(cut, bytes, at),
+        Class::Byte => scalar_head(4, items::read_byte(bytes, at)),
+        Class::Bool => scalar_head(3, numbers::read_bool(bytes, at)),
+        Class::Char => scalar_head(5, numbers::read_char(bytes, at)),
+        Class::Float => scalar_head(2, numbers::read_f64(bytes, at)),
+        Class::SFloat => scalar_head(25, numbers::read_f32(bytes, at)),
         Class::Str => part_head(0, items::read_pool_index(bytes, pool, at)),
         Class::Native => read_native_head(bytes, names, pool, at),
         Class::Function => read_function_head(bytes, pool, at),

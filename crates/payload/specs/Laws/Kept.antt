@@ -100,7 +100,7 @@ module _ (c : Capacities) (p : List ℕ) where
   kept-float small n = keeps-free c p (keeps-body c p n) (λ l z. keeps-value c p _ (λ w. w < 256 ^ n)
       (rw (z .1) at (fromLeBytes-lt (l .bytes) (rw (z .0 .its-bytes) at (part-bytes p (l .offset) (length (l .bytes)) small)))))
 
-  kept-number : Bytes p → (k : NumberKind) → K (readNumber k) (Plain c p (λ w. fitsKind k w ≡ true))
+  pub kept-number : Bytes p → (k : NumberKind) → K (readNumber k) (Plain c p (λ w. fitsKind k w ≡ true))
   unfolding readNumber fitsKind
   kept-number small u64 = plain-so c p (λ w z. lt-ltb w (2 ^ 64) z) (keeps-varint c p)
   kept-number small u32 = plain-so c p (λ w z. lt-ltb w (2 ^ 32) z) (kept-cut (2 ^ 32) (lit< tt))
