@@ -9,6 +9,7 @@ ghost use Rattle.payload.specs.Tables.{spanWords};
 ghost use Rattle.read_items.specs.Reads.{Reads};
 ghost use Rattle.read_code.specs.CodeRead.{CodeRead};
 ghost use Rattle.read_code.specs.Runs.{positionAnswer, ShortRun, RunRead, RunsRead, Refuses, spanOf};
+use cursor::Body;
 use varint::Position;
 use varint::Varint;
 
@@ -44,7 +45,7 @@ struct Refusal {
 fn read_position(bytes: &[u8], old: i64, at: usize) -> PositionAt
     ensures { λ r. ⌜ Reads (now (bytes .entry)) at (readPosition old) (positionAnswer r) ⌝ }
 {
-    match varint::uvarint(bytes, at) {
+    match cursor::read_uvarint(bytes, at) {
         Varint::Number(delta, next) => match varint::add_delta(old, varint::unzigzag(delta)) {
             Position::At(new) => PositionAt::Position(new, next),
             Position::OutOfRange => PositionAt::Refused(8, at),
@@ -59,7 +60,7 @@ fn read_run_long(bytes: &[u8], start: i64, end: i64, at: usize) -> RunAt
 {
     match read_position(bytes, start, at) {
         PositionAt::Position(s, after_start) => match read_position(bytes, end, after_start) {
-            PositionAt::Position(e, after_end) => match varint::uvarint(bytes, after_end) {
+            PositionAt::Position(e, after_end) => match cursor::read_uvarint(bytes, after_end) {
                 Varint::Number(count, next) => RunAt::Run(s, e, count, next),
                 Varint::Refused(n, q) => RunAt::Refused(n, q),
             },
@@ -199,29 +200,23 @@ pub fn read_code(bytes: &[u8], spans: &mut [u64], used: usize, most: usize, at: 
     requires { ⌜ (used ≤ most) × (2 * most ≤ length (now spans)) ⌝ }
     ensures { λ r. ⌜ CodeRead (now (bytes .entry)) (now (spans .entry)) (now (spans .exit)) used most at r ⌝ }
 {
-    match varint::uvarint(bytes, at) {
-        Varint::Number(length, offset) => {
-            if ((bytes.len() - offset) as u64) < length {
-                return CodeAt::Refused(1, offset);
-            }
+    match cursor::read_uvarint(bytes, at) {
+        Varint::Number(length, first) => {
             let size = length as usize;
-            let body_end = offset + size;
-            if most - used < size {
-                return CodeAt::Refused(23, body_end);
-            }
-            match varint::uvarint(bytes, body_end) {
-                Varint::Number(count, first) => match read_runs(
-                    bytes,
-                    spans,
-                    used,
-                    size,
-                    count,
-                    first,
-                ) {
-                    RunsAt::End(next) => CodeAt::Code(offset, size, next),
-                    RunsAt::Refused(n, q) => CodeAt::Refused(n, q),
-                },
-                Varint::Refused(n, q) => CodeAt::Refused(n, q),
+            match cursor::read_body(bytes, first, size) {
+                Body::At(offset, body_end) => {
+                    if most - used < size {
+                        return CodeAt::Refused(23, body_end);
+                    }
+                    match cursor::read_uvarint(bytes, body_end) {
+                        Varint::Number(count, runs) => match read_runs(bytes, spans, used, size, count, runs) {
+                            RunsAt::End(next) => CodeAt::Code(offset, size, next),
+                            RunsAt::Refused(n, q) => CodeAt::Refused(n, q),
+                        },
+                        Varint::Refused(n, q) => CodeAt::Refused(n, q),
+                    }
+                }
+                Body::Short(q) => CodeAt::Refused(1, q),
             }
         }
         Varint::Refused(n, q) => CodeAt::Refused(n, q),

@@ -10,7 +10,7 @@ use varint::Varint;
 pub fn read_uvarint(bytes: &[u8], at: usize) -> Number
     ensures { λ r. ⌜ Reads (now (bytes .entry)) at varint (numberAnswer r) ⌝ }
 {
-    match varint::uvarint(bytes, at) {
+    match cursor::read_uvarint(bytes, at) {
         Varint::Number(n, next) => Number::Read(n, next),
         Varint::Refused(number, place) => Number::Refused(number, place),
     }

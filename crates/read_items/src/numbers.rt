@@ -8,6 +8,7 @@ ghost use Rattle.read_items.specs.Numbers.{kindOf, cutWord};
 use crate::Cut;
 use crate::Number;
 use crate::items;
+use cursor::Body;
 
 // The word of a signed number, from its zigzag.
 fn signed_word(z: u64) -> u64
@@ -100,18 +101,18 @@ pub fn read_f64(bytes: &[u8], at: usize) -> Number
     requires { ⌜ at ≤ length (now bytes) ⌝ }
     ensures { λ r. ⌜ Reads (now (bytes .entry)) at (readNumber f64) (numberAnswer r) ⌝ }
 {
-    if bytes.len() - at < 8 {
-        return Number::Refused(1, at);
+    match cursor::read_body(bytes, at, 8) {
+        Body::At(offset, next) => Number::Read(slices::word(bytes, offset), next),
+        Body::Short(q) => Number::Refused(1, q),
     }
-    Number::Read(slices::word(bytes, at), at + 8)
 }
 
 pub fn read_f32(bytes: &[u8], at: usize) -> Number
     requires { ⌜ at ≤ length (now bytes) ⌝ }
     ensures { λ r. ⌜ Reads (now (bytes .entry)) at (readNumber f32) (numberAnswer r) ⌝ }
 {
-    if bytes.len() - at < 4 {
-        return Number::Refused(1, at);
+    match cursor::read_body(bytes, at, 4) {
+        Body::At(offset, next) => Number::Read(slices::half(bytes, offset), next),
+        Body::Short(q) => Number::Refused(1, q),
     }
-    Number::Read(slices::half(bytes, at), at + 4)
 }

@@ -5,6 +5,7 @@ ghost use Rattle.payload.specs.Reading.{readString};
 ghost use Rattle.read_items.specs.Reads.{Reads};
 ghost use Rattle.read_pool.specs.PoolRead.{PoolRead};
 ghost use Rattle.read_pool.specs.Strings.{stringAnswer, StringsRead};
+use cursor::Body;
 use read_items::Number;
 use read_items::items;
 
@@ -24,15 +25,17 @@ fn read_string(bytes: &[u8], at: usize) -> StringAt
     ensures { λ r. ⌜ Reads (now (bytes .entry)) at readString (stringAnswer (now (bytes .entry)) r) ⌝ }
 {
     match items::read_uvarint(bytes, at) {
-        Number::Read(size, offset) => {
-            if ((bytes.len() - offset) as u64) < size {
-                return StringAt::Refused(1, offset);
-            }
+        Number::Read(size, first) => {
             let n = size as usize;
-            if utf8::part_is_utf8(bytes, offset, n) {
-                return StringAt::Body(offset, n);
+            match cursor::read_body(bytes, first, n) {
+                Body::At(offset, next) => {
+                    if utf8::part_is_utf8(bytes, offset, n) {
+                        return StringAt::Body(offset, n);
+                    }
+                    StringAt::Refused(3, offset)
+                }
+                Body::Short(q) => StringAt::Refused(1, q),
             }
-            StringAt::Refused(3, offset)
         }
         Number::Refused(n, q) => StringAt::Refused(n, q),
     }

@@ -9,7 +9,7 @@ use Rattle.read_code.proofs.read_position.Tie as tie
 returns : tie.Need-returns
 returns c =
     let delta = c .before .before .before .before .before .before in
-    let number = was-number (delta .delta .given .1) (delta .before .before .uvarint .ensures) in
+    let number = was-number (delta .delta .given .1) (delta .before .before .read-uvarint .ensures) in
     let unzigzag = c .before .before .before .before .unzigzag in
     rw (signed (c .known-told2 .given .0 .1))
     (reads-position
@@ -22,7 +22,7 @@ returns c =
 returns-2 : tie.Need-returns-2
 returns-2 c =
     let delta = c .before .before .before .before .before in
-    let number = was-number (delta .delta .given .1) (delta .before .before .uvarint .ensures) in
+    let number = was-number (delta .delta .given .1) (delta .before .before .read-uvarint .ensures) in
     let unzigzag = c .before .before .before .unzigzag in
     reads-no-position
     (toZ-ofZ (delta .before .before .before .before .fits .old))
@@ -32,7 +32,7 @@ returns-2 c =
     (c .enum-told .given .1)
 
 returns-3 : tie.Need-returns-3
-returns-3 c = reads-position-stop _ (no-number (c .before .n .given .1) (c .before .before .before .uvarint .ensures))
+returns-3 c = reads-position-stop _ (no-number (c .before .n .given .1) (c .before .before .before .read-uvarint .ensures))
 
 pub read-position-spec : {M : Type 1} → statement M
 read-position-spec =

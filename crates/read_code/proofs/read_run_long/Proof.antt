@@ -13,7 +13,7 @@ returns c =
     let fits = start .before .before .before .before .before .fits in
     let s = was-position (toZ-ofZ (fits .start)) (start .before .s .given .1) (start .before .before .before .read-position .ensures) in
     let e = was-position (toZ-ofZ (fits .end)) (end .before .e .given .1) (end .before .before .before .read-position2 .ensures) in
-    let count = was-number (c .before .count .given .1) (c .before .before .before .uvarint .ensures) in
+    let count = was-number (c .before .count .given .1) (c .before .before .before .read-uvarint .ensures) in
     run-read s e count (signed (start .known-told .given .0 .1)) (signed (end .known-told2 .given .0 .1))
 
 returns-2 : tie.Need-returns-2
@@ -23,7 +23,7 @@ returns-2 c =
     let fits = start .before .before .before .before .before .fits in
     let s = was-position (toZ-ofZ (fits .start)) (start .before .s .given .1) (start .before .before .before .read-position .ensures) in
     let e = was-position (toZ-ofZ (fits .end)) (end .before .e .given .1) (end .before .before .before .read-position2 .ensures) in
-    count-refused s e (no-number (c .before .n .given .1) (c .before .before .before .uvarint .ensures))
+    count-refused s e (no-number (c .before .n .given .1) (c .before .before .before .read-uvarint .ensures))
 
 returns-3 : tie.Need-returns-3
 returns-3 c =

@@ -7,12 +7,12 @@ use Rattle.read_items.proofs.items.read_uvarint.Tie as tie
 
 returns : tie.Need-returns
 returns c =
-    rw (sym (c .before .before .before .uvarint .ensures) ∙ c .before .n .given .1) at
+    rw (sym (c .before .before .before .read-uvarint .ensures) ∙ c .before .n .given .1) at
     (reads-varint (c .before .before .before .before .before .args .bytes .now) (c .before .before .before .before .before .args .at))
 
 returns-2 : tie.Need-returns-2
 returns-2 c =
-    rw (sym (c .before .before .before .uvarint .ensures) ∙ c .before .number .given .1) at
+    rw (sym (c .before .before .before .read-uvarint .ensures) ∙ c .before .number .given .1) at
     (reads-varint (c .before .before .before .before .before .args .bytes .now) (c .before .before .before .before .before .args .at))
 
 pub read-uvarint-spec : {M : Type 1} → statement M

@@ -1,0 +1,61 @@
+// The cursor: a record that holds the payload slice and a position. Its functions take it apart and call covered ones.
+ghost use mathlib.Core.Path.{_≡_};
+ghost use Rattle.varint.specs.Varint.{varintOf};
+ghost use Rattle.cursor.specs.Body.{bodyOf};
+use varint::Varint;
+
+pub struct Cursor<'a> {
+    pub payload: &'a [u8],
+    pub at: usize,
+}
+
+// A body's first byte and the place after it, or the place where too few bytes are left.
+pub enum Body {
+    At(usize, usize),
+    Short(usize),
+}
+
+// The body of n bytes at a place.
+pub fn body_at(payload: &[u8], at: usize, n: usize) -> Body
+    ensures { λ r. ⌜ r ≡ bodyOf (now (payload .entry)) at n ⌝ }
+{
+    if at <= payload.len() {
+        if n <= payload.len() - at {
+            return Body::At(at, at + n);
+        } else {
+            return Body::Short(at);
+        }
+    }
+    Body::Short(at)
+}
+
+pub fn cursor_at<'a>(payload: &'a [u8], at: usize) -> Cursor<'a>
+    ensures { λ r. ⌜ (r .payload ≡ payload .entry) × (r .at ≡ at) ⌝ }
+{
+    Cursor { payload, at }
+}
+
+pub fn uvarint<'a>(c: Cursor<'a>) -> Varint
+    ensures { λ r. ⌜ r ≡ varintOf (now (c .entry .payload)) (c .entry .at) ⌝ }
+{
+    varint::uvarint(c.payload, c.at)
+}
+
+pub fn take<'a>(c: Cursor<'a>, n: usize) -> Body
+    ensures { λ r. ⌜ r ≡ bodyOf (now (c .entry .payload)) (c .entry .at) n ⌝ }
+{
+    body_at(c.payload, c.at, n)
+}
+
+// The same by plain parameters, for every caller that holds a slice and a number.
+pub fn read_uvarint(payload: &[u8], at: usize) -> Varint
+    ensures { λ r. ⌜ r ≡ varintOf (now (payload .entry)) at ⌝ }
+{
+    uvarint(cursor_at(payload, at))
+}
+
+pub fn read_body(payload: &[u8], at: usize, n: usize) -> Body
+    ensures { λ r. ⌜ r ≡ bodyOf (now (payload .entry)) at n ⌝ }
+{
+    take(cursor_at(payload, at), n)
+}

@@ -1,0 +1,73 @@
+-- `fill_tables` meets its contract: the size, the pool, then what stands after it.
+use mathlib.Core.Path.{_≡_}
+use Prim.Native.Nat.{_-_, _*_}
+use native.Mathlib.Omega.{arith}
+use borrow.Author.Needs.{needs}
+use Rattle.read_pool.specs.Laws.PoolRead.{was-pool, no-pool}
+use Rattle.read_values.specs.Did.{capacities}
+use Rattle.deserialize.proofs.Script.{filled-no}
+use Rattle.deserialize.proofs.Tables.{strings-fit, strings-few, starts-fit, tables-fit, pool-room, pool-whole, pool-inside, too-large, no-pool-read, filled-payload}
+use Rattle.deserialize.proofs.fill_tables.Statement.{statement}
+use Rattle.deserialize.proofs.fill_tables.Tie as tie
+
+returns : tie.Need-returns
+returns c = filled-no (too-large _ _ _ (c .if1 .taken))
+
+read-pool-requires : tie.Need-read-pool-requires
+read-pool-requires c κs = strings-fit _ _ _ _ (c .before .limits-of .ensures)
+
+mul-end : tie.Need-mul-end
+mul-end c =
+    let read = was-pool (c .before .count .given .1) (c .before .before .before .before .before .read-pool .ensures) in
+    omega (arith, read .fits, strings-few _ _ _ _ (c .before .before .before .before .before .before .before .limits-of .ensures))
+
+part-read-script-end : tie.Need-part-read-script-end
+part-read-script-end c = pool-room (was-pool (c .before .before .count .given .1) (c .before .before .before .before .before .before .read-pool .ensures)) (strings-fit _ _ _ _ (c .before .before .before .before .before .before .before .before .limits-of .ensures))
+
+read-script-requires : tie.Need-read-script-requires
+read-script-requires c κs =
+    let read = was-pool (c .before .before .before .before .before .before .count .given .1) (c .before .before .before .before .before .before .before .before .before .before .read-pool .ensures) in
+    let limits = c .before .before .before .before .before .before .before .before .before .before .before .before .limits-of .ensures in
+    let room = strings-fit _ _ _ _ limits in
+    let n = c .before .before .before .before .before .before .count .given .0 .0 in
+    let e : 2 * n - 0 ≡ 2 * n = omega arith in
+    (tables-fit _ _ _ _ limits (read .inside), (starts-fit _ _ _ _ limits, (pool-whole read room _ e, pool-inside read room _ e)))
+
+returns-2 : tie.Need-returns-2
+returns-2 c =
+    let x = c .before .before .before .before .before .before .before .before .before .before .before .before .before .before .before .before .before .before .before .before .before .before .before .before .before .before .before .args in
+    let limits = c .before .before .before .before .before .before .before .before .before .before .before .before .before .before .before .before .before .before .before .limits-of in
+    let read = was-pool (c .before .before .before .before .before .before .before .before .before .before .before .before .before .count .given .1) (c .before .before .before .before .before .before .before .before .before .before .before .before .before .before .before .before .before .read-pool .ensures) in
+    let n = c .before .before .before .before .before .before .before .before .before .before .before .before .before .count .given .0 .0 in
+    let e : 2 * n - 0 ≡ 2 * n = omega arith in
+    rw (← limits .ensures) (filled-payload (capacities (limits .result)) (x .names .now) (x .bytes .now) (c .before .before .before .before .before .before .before .before .before .before .before .before .before .before .before .before .before .before .before .before .if1 .left) _ e read (c .before .before .before .before .before .before .read-script .ensures))
+
+returns-3 : tie.Need-returns-3
+returns-3 c =
+    let x = c .before .before .before .before .before .before .before .before .before .before .before .before .before .before .before .args in
+    let limits = c .before .before .before .before .before .before .before .limits-of in
+    let refused = no-pool (c .before .n .given .1) (c .before .before .before .before .before .read-pool .ensures) in
+    rw (← limits .ensures) (filled-no (no-pool-read (capacities (limits .result)) (x .names .now) (x .bytes .now) (c .before .before .before .before .before .before .before .before .if1 .left) refused))
+
+pub fill-tables-spec : {M : Type 1} → statement M
+fill-tables-spec =
+    tie.close
+    (tie.spec
+    returns
+    (λ c κs. search needs)
+    read-pool-requires
+    (λ c. search needs)
+    mul-end
+    (λ c. search needs)
+    (λ c. search needs)
+    (λ c. search needs)
+    part-read-script-end
+    read-script-requires
+    (λ c. search needs)
+    (λ c. search needs)
+    (λ c. search needs)
+    (λ c. search needs)
+    (λ c. search needs)
+    returns-2
+    (λ c. search needs)
+    returns-3)

@@ -1,0 +1,19 @@
+-- `limits_of` meets its contract: each capacity is the definition's.
+use borrow.Author.Needs.{needs}
+use Rattle.payload.specs.Tables.{capacitiesOf}
+use Rattle.deserialize.proofs.limits_of.Statement.{statement}
+use Rattle.deserialize.proofs.limits_of.Tie as tie
+
+returns : tie.Need-returns
+unfolding capacitiesOf
+returns c = rw (c .before .before .before .row-capacity .ensures, c .before .before .span-capacity .ensures, c .before .string-capacity .ensures, c .start-capacity .ensures)
+
+pub limits-of-spec : {M : Type 1} → statement M
+limits-of-spec =
+    tie.close
+    (tie.spec
+    (λ c κs. search needs)
+    (λ c κs. search needs)
+    (λ c κs. search needs)
+    (λ c κs. search needs)
+    returns)
