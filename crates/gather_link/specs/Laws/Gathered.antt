@@ -22,7 +22,7 @@ use Rattle.pool_index.specs.Laws.Distinct.{interned-distinct}
 use Rattle.pool_index.specs.Strings.{poolStrings, distinct}
 use Rattle.gather_link.specs.Laws.Parts.{pool-bytes, pool-strings}
 use Rattle.gather_link.specs.Laws.Row.{part-is}
-use Rattle.gather_link.specs.Laws.Rows.{trees-parts, trees-named}
+use Rattle.gather_link.specs.Laws.Rows.{size-forget, trees-parts, trees-named}
 use Rattle.gather.specs.declared.Gathered.the-variants as answer
 
 -- the pool has as many strings as parts
@@ -48,6 +48,11 @@ module _ (T : Tables) (u : Script Part) (end : State) (e : scriptOf T ≡ ok u e
 
   row-count : length (T .rows) / rowWidth ≡ size ts
   row-count = omega (arith, ap length (rows-are ∙ append-nil (rowTable ts)), row-table-width ts rows-kinded)
+
+  -- as many rows as the script has
+  pub rows-used : length (T .rows) / rowWidth ≡ size (single (forgetScript u .outer))
+  unfolding forgetScript forgetNode single
+  rows-used = row-count ∙ sym (size-forget ts) ∙ unfold forgetTrees in refl
 
   -- the parts that gathering finds are those of the script
   pub pooled-is : pooledParts (T .store) (T .rows) (T .flag) (T .nameOffset) (T .nameLength) ≡ internedParts [] (gathered u)

@@ -33,6 +33,12 @@ node-size : (t : ℕ) (is : List (Item Part)) (ks ts : Trees Part) → size (nod
 unfolding size
 node-size t is ks ts = omega arith
 
+-- the places of parts do not count
+pub size-forget : (ts : Trees Part) → size (forgetTrees ts) ≡ size ts
+unfolding size forgetTrees
+size-forget nil = refl
+size-forget (node t is ks ts) = rw (size-forget ks, size-forget ts)
+
 module _ (s : List ℕ) where
   ---- strings
 
@@ -81,11 +87,6 @@ module _ (s : List ℕ) where
     first-named : (n : ℕ) (words : List ℕ) → rowsNamed s l (suc n) words ≡ if_then_else_ (rowNamed s l words) (suc (rowsNamed s l n (drop rowWidth words))) 0
     unfolding rowsNamed
     first-named n words = refl
-
-    size-forget : (ts : Trees Part) → size (forgetTrees ts) ≡ size ts
-    unfolding size forgetTrees
-    size-forget nil = refl
-    size-forget (node t is ks ts) = rw (size-forget ks, size-forget ts)
 
     pub trees-named : (ts : Trees Part) (r : List ℕ) → Kinded (forgetTrees ts) → InTrees s ts → rowsNamed s l (size ts) (rowTable ts ++ r) ≡ namedRows l (forgetTrees ts)
     unfolding Kinded forgetTrees InTrees namedRows
