@@ -1,4 +1,4 @@
--- What the exported calls give: the test for UTF-8 as a number, and a varint's length and number.
+-- What the exported calls give: the test for UTF-8 as a number, a varint's length and number, and the tables of the house check.
 use mathlib.Core.Bool.{Bool, cond}
 use mathlib.Core.List.{List}
 use Prim.Native.Nat.{ℕ}
@@ -6,6 +6,7 @@ use lib.Dec.{ltb}
 use lib.ListN.{length}
 use Rattle.slices.specs.LittleEndian.{toLeBytes}
 use Rattle.answer.specs.PutIfRoom.{putIfRoom}
+use Rattle.payload.specs.Reading.{Capacities}
 use Rattle.varint.specs.declared.Varint.{Varint}
 use Rattle.varint.specs.declared.Varint.the-variants.{Number, Refused}
 use Rattle.varint.specs.Varint.{nextOf}
@@ -22,3 +23,7 @@ usedOf read number = cond (ltb (length number) 8) 0 (nextOf read)
 abbrev pub numberAfter : Varint → List ℕ → List ℕ
 numberAfter (Number n next) number = putIfRoom number 0 (toLeBytes 8 n)
 numberAfter (Refused refusal place) number = number
+
+-- the tables of the house check
+abbrev pub checkCapacities : Capacities
+checkCapacities = record { maxRows = 512; maxSpans = 1024; maxStrings = 256; maxStarts = 512 }

@@ -6,7 +6,11 @@ ghost use Rattle.slices.specs.Put.{put};
 ghost use Rattle.slices.specs.LittleEndian.{toLeBytes};
 ghost use Rattle.varint.specs.Varint.{varintOf};
 ghost use Rattle.utf8.specs.Utf8.{isUtf8};
-ghost use Rattle.host.specs.Host.{flag, usedOf, numberAfter};
+ghost use Rattle.payload.specs.House.{house};
+ghost use Rattle.payload.specs.Tables.{readAnswer};
+ghost use Rattle.house.specs.Demand3.{numberOf};
+ghost use Rattle.host.specs.Host.{flag, usedOf, numberAfter, checkCapacities};
+use payload::Read;
 use varint::Varint;
 
 // 1 where the bytes are UTF-8, else 0.
@@ -47,5 +51,21 @@ pub extern "C" fn rlc2_uvarint(bytes: &[u8], number: &mut [u8]) -> usize
             next
         }
         Varint::Refused(_, _) => 0,
+    }
+}
+
+// The house check with tables of its own: 512 rows of five words, 1,024 spans and 256 strings of two, 512 starts. Gives 0 where the payload passes, or the
+// refusal's number.
+#[no_mangle]
+pub extern "C" fn rlc2_house_check(payload: &[u8], names: &[u8]) -> u64
+    ensures { λ r. ⌜ r ≡ numberOf (readAnswer (house checkCapacities (now (names .entry)) (now (payload .entry)))) ⌝ }
+{
+    let mut rows = [0u64; 2560];
+    let mut spans = [0u64; 2048];
+    let mut starts = [0u32; 512];
+    let mut pool = [0u64; 512];
+    match house::house_check(payload, names, &mut rows, &mut spans, &mut starts, &mut pool) {
+        Read::Accepted(_) => 0,
+        Read::Refused(number, _) => number,
     }
 }

@@ -1,1 +1,3 @@
 pub mod HostTables
+pub mod Write
+pub mod Laws

@@ -102,16 +102,16 @@ module _ (c : Capacities) (small : Small c) (listed : List ℕ → Bool) (p : Li
 
 ---- what a passing check has
 
-ok-true : {A : Type 0} (x : Result A) → isOk x ≡ true → (a : A) × (s : State) × (x ≡ ok a s)
+pub ok-true : {A : Type 0} (x : Result A) → isOk x ≡ true → (a : A) × (s : State) × (x ≡ ok a s)
 unfolding isOk
 ok-true (ok a s) e = (a, s, refl)
 ok-true (refused n p) e = false≢true e
 
-is-ok : {A : Type 0} (x : Result A) (a : A) (s : State) → x ≡ ok a s → isOk x ≡ true
+pub is-ok : {A : Type 0} (x : Result A) (a : A) (s : State) → x ≡ ok a s → isOk x ≡ true
 unfolding isOk
 is-ok x a s e = rw e
 
-checked-ok : (p : List ℕ) (x : Result Payload) → isOk (checked p x) ≡ true → (u : Payload) × (s : State) × (x ≡ ok u s) × (houseWritten p u s ≡ true)
+pub checked-ok : (p : List ℕ) (x : Result Payload) → isOk (checked p x) ≡ true → (u : Payload) × (s : State) × (x ≡ ok u s) × (houseWritten p u s ≡ true)
 unfolding checked isOk if_then_else_
 checked-ok p (ok u s) e = (u, s, refl, go (houseWritten p u s) e)
   where
@@ -120,7 +120,7 @@ checked-ok p (ok u s) e = (u, s, refl, go (houseWritten p u s) e)
     go false e = false≢true e
 checked-ok p (refused n q) e = false≢true e
 
-reading-ok : (c : Capacities) (names p : List ℕ) (u : Payload) (s : State) → reading c names p ≡ ok u s → (length p ≤ sizeLimit) × (readPayload c (isListed names) (start p) ≡ ok u s)
+pub reading-ok : (c : Capacities) (names p : List ℕ) (u : Payload) (s : State) → reading c names p ≡ ok u s → (length p ≤ sizeLimit) × (readPayload c (isListed names) (start p) ≡ ok u s)
 unfolding reading if_then_else_
 reading-ok c names p u s e = go (ltb sizeLimit (length p)) refl e
   where
@@ -157,7 +157,7 @@ small-items (nativeName b ∷ is) a e = and-both (and-left _ _ a) (small-items i
 small-items (recordName b ∷ is) a e = and-both (and-left _ _ a) (small-items is (and-right _ _ a) e)
 small-items (code b ss ∷ is) a e = and-both (and-both (and-left _ _ a) (small-left ss (itemsSpans is) e)) (small-items is (and-right _ _ a) (small-right ss (itemsSpans is) e))
 
-small-trees : (ts : Trees Part) → allItems itemRead (forgetTrees ts) ≡ true → smallSpans (spanTable ts) ≡ true → allItems itemSound (forgetTrees ts) ≡ true
+pub small-trees : (ts : Trees Part) → allItems itemRead (forgetTrees ts) ≡ true → smallSpans (spanTable ts) ≡ true → allItems itemSound (forgetTrees ts) ≡ true
 unfolding allItems forgetTrees spanTable
 small-trees nil a e = refl
 small-trees (node t is ks ts) a e =

@@ -244,8 +244,9 @@ module _ (c : Capacities) (small : Small c) (listed : List ℕ → Bool) (s : Sc
         gives-pure _ (λ u. forgetScript (u .script) ≡ s) (ap₂ (λ (n : Node (List ℕ)) (m : Option (LineIndex (List ℕ))). record { outer = n; line = m }) z y))))
         (simp append-nil) (omega arith) (omega arith)
 
+  pub pool-back : Gives c (readPool (c .maxStrings)) (uleb128 (length (poolOf s)) ++ writeStrings (poolOf s)) 0 0 (λ a. map (λ (x : Part). x .bytes) a ≡ poolOf s)
+  pool-back = gives-pool (c .maxStrings) (poolOf s) (fits .fit-strings) (omega (arith, fits .fit-strings, small .small-strings)) pool-utf8 (short-strings (poolOf s) pool-short)
+
   pub gives-payload : Gives c (readPayload c listed) (writing s) (size (single (s .outer))) (spanCount (single (s .outer))) (λ u. forgetScript (u .script) ≡ s)
   unfolding readPayload writing
-  gives-payload = gives-as
-      (gives-bind (gives-pool (c .maxStrings) (poolOf s) (fits .fit-strings) (omega (arith, fits .fit-strings, small .small-strings)) pool-utf8 (short-strings (poolOf s) pool-short)) (λ pool z.
-      gives-rest pool z)) refl (omega arith) (omega arith)
+  gives-payload = gives-as (gives-bind pool-back (λ pool z. gives-rest pool z)) refl (omega arith) (omega arith)

@@ -1,9 +1,8 @@
 -- `serialize::write_gathered` meets its contract: the pool table keeps the used entries of an accepted write, and nothing at a refusal.
 use lib.ListN.{length}
+use borrow.Author.Needs.{needs}
 use Rattle.gather.specs.Laws.Interning.{lent-entries}
 use Rattle.serialize.specs.Laws.Pooled.{gathered-accepted, gathered-refused}
-use lib.ListN.{length}
-use borrow.Author.Needs.{needs}
 use Rattle.serialize.proofs.write_gathered.Statement.{statement}
 use Rattle.serialize.proofs.write_gathered.Tie as tie
 

@@ -1,7 +1,7 @@
 -- `serialize::write_sound` meets its contract: refusal 21, or what the gathered strings and the tables give is the script's writing.
-use Rattle.serialize.specs.Laws.Sound.{entries-fit, entries-writable, leaves-gathered, leaves-full}
 use native.Mathlib.Omega.{arith}
 use borrow.Author.Needs.{needs}
+use Rattle.serialize.specs.Laws.Sound.{entries-fit, entries-writable, leaves-gathered, leaves-full}
 use Rattle.serialize.proofs.write_sound.Statement.{statement}
 use Rattle.serialize.proofs.write_sound.Tie as tie
 

@@ -1,6 +1,6 @@
 -- `serialize::write_tables` meets its contract: the scan's refusal 17, or the writing of a sound program.
-use Rattle.serialize.specs.Laws.Sound.{sound-script, leaves-unsound}
 use borrow.Author.Needs.{needs}
+use Rattle.serialize.specs.Laws.Sound.{sound-script, leaves-unsound}
 use Rattle.serialize.proofs.write_tables.Statement.{statement}
 use Rattle.serialize.proofs.write_tables.Tie as tie
 

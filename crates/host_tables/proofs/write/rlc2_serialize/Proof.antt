@@ -1,0 +1,37 @@
+-- `rlc2_serialize` meets its contract: tables, output and answer are those of `serialize_payload`.
+use lib.ListN.{length}
+use borrow.Author.Needs.{needs}
+use Rattle.host_tables.specs.Laws.Write.{leaves-host, host-answer}
+use Rattle.host_tables.proofs.write.rlc2_serialize.Statement.{statement}
+use Rattle.host_tables.proofs.write.rlc2_serialize.Tie as tie
+
+returns : tie.Need-returns
+returns c =
+    let a = c .before .before .before .before .before .before .before .before .before .before .before .before .before .before .before .before .before .before .before .before .before .before .before .before .args in
+    host-answer (a .pool .now) (a .out .now) (a .answer .now) (leaves-host (a .store .now) (a .counts .now) (a .rows .now) (a .spans .now) (a .starts .now) (a .pool .now) (a .out .now) (c .before .before .before .before .before .before .before .before .before .before .before .before .before .before .before .program-of .ensures) (c .before .before .before .before .before .before .before .before .before .before .before .before .serialize-payload .ensures)) (c .before .before .before .before .before .before .length .given .1) (c .before .before .put-fields .ensures)
+
+returns-2 : tie.Need-returns-2
+returns-2 c =
+    let a = c .before .before .before .before .before .before .before .before .before .before .before .before .before .before .before .before .before .before .before .before .before .before .before .before .args in
+    host-answer (a .pool .now) (a .out .now) (a .answer .now) (leaves-host (a .store .now) (a .counts .now) (a .rows .now) (a .spans .now) (a .starts .now) (a .pool .now) (a .out .now) (c .before .before .before .before .before .before .before .before .before .before .before .before .before .before .before .program-of .ensures) (c .before .before .before .before .before .before .before .before .before .before .before .before .serialize-payload .ensures)) (c .before .before .before .before .before .before .number .given .1) (c .before .before .put-fields2 .ensures)
+
+pub rlc2-serialize-spec : {M : Type 1} → statement M
+rlc2-serialize-spec =
+    tie.close
+    (tie.spec
+    (λ c κs. search needs)
+    (λ c κs. search needs)
+    (λ c. search needs)
+    (λ c. search needs)
+    (λ c κs. search needs)
+    (λ c. search needs)
+    (λ c. search needs)
+    (λ c κs. search needs)
+    (λ c. search needs)
+    (λ c. search needs)
+    (λ c. search needs)
+    returns
+    (λ c. search needs)
+    (λ c. search needs)
+    (λ c. search needs)
+    returns-2)

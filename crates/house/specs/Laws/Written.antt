@@ -1,0 +1,259 @@
+-- What the tests of the house check say of a payload that was read.
+use mathlib.Core.Bool.{Bool, false, true}
+use mathlib.Core.List.{List, [], _++_, _∷_}
+use mathlib.Core.Option.{Option, none, some}
+use mathlib.Core.Path.{_∙_, _≡_, ap, ap₂, refl, subst, sym}
+use Prim.Native.Nat.{_*_, _+_, _-_, _/_, _^_, _≤_, min, ℕ}
+use native.Mathlib.Omega.{arith}
+use lib.Dec.{eqb, ltb}
+use lib.ListN.{drop, length, length-append, take}
+use lib.Seq.{drop-length, take-at}
+use borrow.Author.Tests.{eq-eqb, eqb-true}
+use Rattle.slices.specs.Laws.LittleEndian.{Bytes}
+use Rattle.slices.specs.Laws.Same.{same-eq, same-refl}
+use Rattle.slices.specs.Same.{same}
+use Rattle.slices.specs.Zeros.{padTo}
+use Rattle.payload.specs.Choice.{_and_, if_then_else_}
+use Rattle.payload.specs.Demand3.{allItems, allOf}
+use Rattle.payload.specs.House.{allNamed, checked, house, houseWritten, isOk}
+use Rattle.payload.specs.Laws.Demand3.{small-capacities}
+use Rattle.payload.specs.Laws.Equal.{single-bytes}
+use Rattle.payload.specs.Laws.Given.{length-span-words, small-span-table}
+use Rattle.payload.specs.Laws.House.{IsWriting, house-reads, is-named, is-ok, read-back, read-holds, reading-ok, small-trees}
+use Rattle.payload.specs.Laws.Kept.{itemRead}
+use Rattle.payload.specs.Laws.Pool.{and-both, and-left, and-right, false≢true}
+use Rattle.payload.specs.Laws.ReadSound.{ReadIs, read-is}
+use Rattle.payload.specs.Laws.Rules.{SoundScript}
+use Rattle.payload.specs.Laws.SoundTables.{holds-sound, obeyed-width}
+use Rattle.payload.specs.Names.{isListed}
+use Rattle.payload.specs.Reader.{Part, Result, State, ok, refused, start}
+use Rattle.payload.specs.Reading.{Capacities, Payload, readPayload}
+use Rattle.payload.specs.Rows.{itemsSpans, partWords, rowTable, spanTable}
+use Rattle.payload.specs.Sound.{Tables, isNil, scriptOf}
+use Rattle.payload.specs.Spans.{Span, smallSpans}
+use Rattle.payload.specs.Tables.{Leaves, capacitiesOf, lineFlag, lineName, lineStarts, partsWords, readAnswer, reading, sizeLimit, spanWords, tablesOf, usedPool, usedRows, usedSpans, usedStarts}
+use Rattle.payload.specs.Trees.{Item, LineIndex, Script, Trees, code, forgetItem, forgetItems, forgetLine, forgetNode, forgetScript, forgetTrees, nativeName, nil, node, number, recordName, single, size, spanCount, spanItem, spanItems, startCount, string}
+use Rattle.payload.specs.Write.{internedParts}
+use Rattle.payload.specs.Writing.{gathered, writing}
+use Rattle.payload.specs.declared.Counts.{Counts}
+use Rattle.payload.specs.declared.Read.{Read}
+use Rattle.payload.specs.declared.Read.the-variants as read
+use Rattle.house_link.specs.Laws.PoolRead.{read-pool-interned}
+use Rattle.house.specs.Written.{AcceptedRead, allPositions, isWriting, poolCount, poolWords, wholeTables, writesBack}
+
+---- the words of spans
+
+pub positions-are : (ss : List Span) → allPositions (spanWords ss) ≡ smallSpans ss
+unfolding allPositions spanWords smallSpans
+positions-are [] = refl
+positions-are (x ∷ ss) = ap (λ (b : Bool). ltb (x .start) (2 ^ 63) and ltb (x .end) (2 ^ 63) and b) (positions-are ss)
+
+items-spans : (is : List (Item Part)) → allOf itemRead (forgetItems is) ≡ true → length (itemsSpans is) ≡ spanItems (forgetItems is)
+unfolding allOf forgetItems forgetItem itemRead itemsSpans spanItems spanItem
+items-spans [] h = refl
+items-spans (number k w ∷ is) h = omega (arith, items-spans is (and-right _ _ h))
+items-spans (string b ∷ is) h = omega (arith, items-spans is (and-right _ _ h))
+items-spans (nativeName b ∷ is) h = omega (arith, items-spans is (and-right _ _ h))
+items-spans (recordName b ∷ is) h = omega (arith, items-spans is (and-right _ _ h))
+items-spans (code b ss ∷ is) h = omega (arith, length-append ss (itemsSpans is), items-spans is (and-right _ _ h), eqb-true (length ss) (length (b .bytes)) (and-left _ _ h))
+
+-- one span for each byte of code that was read
+trees-spans : (ts : Trees Part) → allItems itemRead (forgetTrees ts) ≡ true → length (spanTable ts) ≡ spanCount (forgetTrees ts)
+unfolding allItems forgetTrees spanTable spanCount
+trees-spans nil h = refl
+trees-spans (node t is ks ts) h = omega (arith, length-append (itemsSpans is) (spanTable ks ++ spanTable ts), length-append (spanTable ks) (spanTable ts),
+    items-spans is (and-left _ _ h), trees-spans ks (and-left _ _ (and-right _ _ h)), trees-spans ts (and-right _ _ (and-right _ _ h)))
+
+pub parts-words : (xs : List Part) → length (partsWords xs) ≡ 2 * length xs
+unfolding partsWords partWords
+parts-words [] = refl
+parts-words (x ∷ xs) = let h = parts-words xs in omega arith
+
+---- what an accepted read left
+
+abbrev countsOf : Payload → State → Counts
+countsOf u s = record { consumed = s .place; rows = s .rows; spans = s .spans; starts = length (lineStarts (u .script .line)); strings = length (u .pool); flag = lineFlag (u .script .line);
+    «name_o» = lineName (u .script .line) .offset; «name_n» = length (lineName (u .script .line) .bytes) }
+
+accepted-ok : (n : Counts) (x : Result Payload) → read.Accepted n ≡ readAnswer x → (u : Payload) × (s : State) × (x ≡ ok u s) × (n ≡ countsOf u s)
+unfolding readAnswer
+accepted-ok n (ok u s) e = (u, s, refl, cc)
+accepted-ok n (refused m q) e = let z : _≡_ {A = ℕ} 0 1 = cc in absurd (omega arith)
+
+-- the used words of a table that holds them and then zeros
+used-words : (table used : List ℕ) (n : ℕ) → table ≡ padTo (length table) used → length used ≡ n → take n table ≡ used
+used-words table used n e l = ap (take n) e ∙ take-at used _ n l
+
+start-count : (u : Payload) → startCount (forgetLine (u .script .line)) ≡ length (lineStarts (u .script .line))
+start-count u = go (u .script .line)
+  where
+    go : (x : Option (LineIndex Part)) → startCount (forgetLine x) ≡ length (lineStarts x)
+    go none = unfold startCount forgetLine lineStarts in refl
+    go (some x) = unfold startCount forgetLine lineStarts in refl
+
+abbrev pub readTables : List ℕ → Counts → List ℕ → List ℕ → List ℕ → Tables
+readTables p n rows spans starts = wholeTables p (take (5 * n .rows) rows) (take (2 * n .spans) spans) (take (n .starts) starts) (n .flag) (n .«name_o») (n .«name_n»)
+
+-- the same as they are lent, from word 0 on
+abbrev pub lentTables : List ℕ → Counts → List ℕ → List ℕ → List ℕ → Tables
+lentTables p n rows spans starts = wholeTables p (take (5 * n .rows - 0) rows) (take (2 * n .spans - 0) spans) (take (n .starts - 0) starts) (n .flag) (n .«name_o») (n .«name_n»)
+
+pub lent-words : (k : ℕ) (l : List ℕ) → take (k - 0) l ≡ take k l
+lent-words k l = let e : k - 0 ≡ k = omega arith in rw e
+
+pub lent-tables : (p : List ℕ) (n : Counts) (rows spans starts : List ℕ) → lentTables p n rows spans starts ≡ readTables p n rows spans starts
+lent-tables p n rows spans starts = λ i. wholeTables p (lent-words (5 * n .rows) rows i) (lent-words (2 * n .spans) spans i) (lent-words (n .starts) starts i) (n .flag) (n .«name_o») (n .«name_n»)
+
+pub record WasRead (names p rows spans starts pool : List ℕ) (n : Counts) : Type 0 where
+  pub u : Payload
+  pub s : State
+  pub is : reading (capacitiesOf (length rows) (length spans) (length starts) (length pool)) names p ≡ ok u s
+  pub short : length p ≤ sizeLimit
+  pub payload-read : readPayload (capacitiesOf (length rows) (length spans) (length starts) (length pool)) (isListed names) (start p) ≡ ok u s
+  pub has : ReadIs (capacitiesOf (length rows) (length spans) (length starts) (length pool)) p (isListed names) u s
+  pub consumed : n .consumed ≡ s .place
+  pub strings : n .strings ≡ length (u .pool)
+  pub spans-are : take (2 * n .spans) spans ≡ spanWords (spanTable (single (u .script .outer)))
+  pub tables-are : readTables p n rows spans starts ≡ tablesOf p (u .script)
+  pub pool-is : take (2 * n .strings) pool ≡ partsWords (u .pool)
+  pub rows-fit : 5 * n .rows ≤ length rows
+  pub spans-fit : 2 * n .spans ≤ length spans
+  pub starts-fit : n .starts ≤ length starts
+  pub strings-fit : n .strings ≤ min (length pool / 2) 1048576
+
+module _ {names p rows spans starts pool : List ℕ} {n : Counts} (h : AcceptedRead names p rows spans starts pool n) (bytes : Bytes p) where
+  abbrev c : Capacities
+  c = capacitiesOf (length rows) (length spans) (length starts) (length pool)
+
+  pub was-read : WasRead names p rows spans starts pool n
+  unfolding capacitiesOf usedRows usedSpans usedStarts usedPool tablesOf forgetScript
+  was-read =
+      let a = accepted-ok n (reading c names p) (h .left .answer) in
+      let u = a .0 in
+      let s = a .1 in
+      let e = a .2 in
+      let k = reading-ok c names p u s e in
+      let f = read-is c p (isListed names) bytes u s (k .1) in
+      let ts = single (u .script .outer) in
+      let rules = rw (← single-bytes (u .script .outer)) at (f .obeys) in
+      let read-items = rw (← single-bytes (u .script .outer)) at (f .items) in
+      let counted = rw (← single-bytes (u .script .outer)) at (f .spans-are) in
+      let rows-n : n .rows ≡ s .rows = ap (λ (m : Counts). m .rows) (a .3) in
+      let spans-n : n .spans ≡ s .spans = ap (λ (m : Counts). m .spans) (a .3) in
+      let starts-n : n .starts ≡ length (lineStarts (u .script .line)) = ap (λ (m : Counts). m .starts) (a .3) in
+      let strings-n : n .strings ≡ length (u .pool) = ap (λ (m : Counts). m .strings) (a .3) in
+      let r : take (5 * n .rows) rows ≡ rowTable ts = used-words rows (rowTable ts) (5 * n .rows) (h .left .rows-are ∙ ap (λ (x : Result Payload). padTo (length rows) (usedRows x)) e) (omega (arith, obeyed-width 32 ts rules, f .rows-are)) in
+      let q : take (2 * n .spans) spans ≡ spanWords (spanTable ts) = used-words spans (spanWords (spanTable ts)) (2 * n .spans) (h .left .spans-are ∙ ap (λ (x : Result Payload). padTo (length spans) (usedSpans x)) e) (omega (arith, length-span-words (spanTable ts), trees-spans ts read-items, counted)) in
+      let t : take (n .starts) starts ≡ lineStarts (u .script .line) = used-words starts (lineStarts (u .script .line)) (n .starts) (h .left .starts-are ∙ ap (λ (x : Result Payload). padTo (length starts) (usedStarts x)) e) (sym starts-n) in
+      let v : take (2 * n .strings) pool ≡ partsWords (u .pool) = used-words pool (partsWords (u .pool)) (2 * n .strings) (h .left .pool-is ∙ ap (λ (x : Result Payload). padTo (length pool) (usedPool x)) e) (omega (arith, parts-words (u .pool))) in
+      record {
+        u = u;
+        s = s;
+        is = e;
+        short = k .0;
+        payload-read = k .1;
+        has = f;
+        consumed = ap (λ (m : Counts). m .consumed) (a .3);
+        strings = strings-n;
+        spans-are = q;
+        tables-are = λ i. wholeTables p (r i) (q i) (t i) (a .3 i .flag) (a .3 i .«name_o») (a .3 i .«name_n»);
+        pool-is = v;
+        rows-fit = omega (arith, f .rows-are, f .rows-fit);
+        spans-fit = omega (arith, f .spans-are, f .spans-fit);
+        starts-fit = omega (arith, f .starts-fit, start-count u);
+        strings-fit = omega (arith, f .strings-fit);
+      }
+
+---- what the tests say
+
+module _ {names p rows spans starts pool : List ℕ} {n : Counts} (w : WasRead names p rows spans starts pool n) (bytes : Bytes p) where
+  abbrev caps : Capacities
+  caps = capacitiesOf (length rows) (length spans) (length starts) (length pool)
+
+  abbrev T : Tables
+  T = readTables p n rows spans starts
+
+  abbrev passes : Bool
+  passes = isOk (house caps names p)
+
+  -- what passes is the writing of the program that was read
+  writing-read : passes ≡ true → IsWriting caps (isListed names) p (forgetScript (w .u .script))
+  writing-read e =
+      let y = house-reads caps (small-capacities _ _ _ _) names p bytes e in
+      let q : y .0 ≡ w .u = cc (y .2, w .is) in
+      subst (λ (v : Payload). IsWriting caps (isListed names) p (forgetScript (v .script))) q (y .3)
+
+  -- a test that what passes meets, and that this payload does not
+  refutes : (passes ≡ true → ⊥) → false ≡ passes
+  refutes f = go passes refl
+    where
+      go : (t : Bool) → passes ≡ t → false ≡ passes
+      go true q = absurd (f q)
+      go false q = sym q
+
+  pub not-consumed : (n .consumed ≡ length p → ⊥) → false ≡ passes
+  not-consumed f = refutes (λ e.
+      let r = read-back caps (small-capacities _ _ _ _) (isListed names) p _ (writing-read e) in
+      let q : r .1 ≡ w .s = cc (r .2, w .payload-read) in
+      f (w .consumed ∙ ap (λ (z : State). z .place) (sym q) ∙ r .4))
+
+  pub not-positions : false ≡ allPositions (take (2 * n .spans) spans) → false ≡ passes
+  unfolding forgetScript
+  not-positions f = refutes (λ e.
+      let a = small-span-table (single (w .u .script .outer)) (rw (single-bytes (w .u .script .outer)) (writing-read e .sound .items-sound)) in
+      false≢true (f ∙ ap allPositions (w .spans-are) ∙ positions-are _ ∙ a))
+
+  -- the tables are sound, and hold the script that was read
+  sound-tables : allPositions (take (2 * n .spans) spans) ≡ true → (z : State) × (scriptOf T ≡ ok (w .u .script) z)
+  unfolding forgetScript forgetNode
+  sound-tables e =
+      let u = w .u .script in
+      let small : smallSpans (spanTable (single (u .outer))) ≡ true = sym (positions-are _) ∙ ap allPositions (sym (w .spans-are)) ∙ e in
+      let sound : SoundScript (forgetScript u) = record {
+        outer-is-chunk = w .has .outer-tag;
+        obeys = w .has .obeys;
+        items-sound = rw (← single-bytes (u .outer)) (small-trees (single (u .outer)) (rw (single-bytes (u .outer)) (w .has .items)) small);
+        line-sound = w .has .line } in
+      let g = holds-sound (tablesOf p u) u (read-holds caps p (isListed names) bytes (w .u) (w .s) (w .payload-read)) sound in
+      (g .0, ap scriptOf (w .tables-are) ∙ g .1)
+
+  pub is-sound : allPositions (take (2 * n .spans) spans) ≡ true → isOk (scriptOf T) ≡ true
+  is-sound e = let g = sound-tables e in is-ok _ _ _ (g .1)
+
+  -- the pool that was read is the one that gathering gives
+  pool-of-passed : passes ≡ true → internedParts [] (gathered (w .u .script)) ≡ w .u .pool
+  pool-of-passed e = read-pool-interned caps (small-capacities _ _ _ _) (isListed names) p (w .u) (w .s) (w .payload-read) (writing-read e)
+
+  pub pool-kept : allPositions (take (2 * n .spans) spans) ≡ true → passes ≡ true → poolWords (scriptOf T) ≡ take (2 * n .strings) pool
+  unfolding poolWords
+  pool-kept a e = let g = sound-tables a in ap poolWords (g .1) ∙ ap partsWords (pool-of-passed e) ∙ sym (w .pool-is)
+
+  all-read : n .consumed ≡ length p → isNil (w .s .rest) ≡ true
+  unfolding isNil
+  all-read e = let q : w .s .place ≡ length p = sym (w .consumed) ∙ e in ap isNil (w .has .place-is ∙ ap (λ (k : ℕ). drop k p) q ∙ drop-length p)
+
+  to-passes : n .consumed ≡ length p → allPositions (take (2 * n .spans) spans) ≡ true → writesBack (scriptOf T) (n .strings) p ≡ true → passes ≡ true
+  unfolding writesBack isWriting houseWritten house checked if_then_else_ isOk
+  to-passes k a e =
+      let g = sound-tables a in
+      let b : (eqb (poolCount (scriptOf T)) (n .strings) and isWriting (scriptOf T) p) ≡ true = e in
+      let d : isWriting (ok (w .u .script) (g .0)) p ≡ true = ap (λ (x : Result (Script Part)). isWriting x p) (sym (g .1)) ∙ and-right _ _ b in
+      let sound : isOk (scriptOf (tablesOf p (w .u .script))) ≡ true = ap (λ (U : Tables). isOk (scriptOf U)) (sym (w .tables-are)) ∙ is-sound a in
+      let t : houseWritten p (w .u) (w .s) ≡ true = and-both (all-read k) (and-both sound d) in
+      rw (w .is, t)
+
+  to-written : allPositions (take (2 * n .spans) spans) ≡ true → passes ≡ true → writesBack (scriptOf T) (n .strings) p ≡ true
+  unfolding writesBack isWriting poolCount
+  to-written a e =
+      let g = sound-tables a in
+      let i = writing-read e in
+      let count : length (internedParts [] (gathered (w .u .script))) ≡ n .strings = ap length (pool-of-passed e) ∙ sym (w .strings) in
+      rw (g .1) (and-both (eq-eqb _ _ count) (and-both (is-named _ (i .named)) (rw (i .its-writing) (same-refl p))))
+
+  pub written-is : n .consumed ≡ length p → allPositions (take (2 * n .spans) spans) ≡ true → writesBack (scriptOf T) (n .strings) p ≡ passes
+  written-is k a = go (writesBack (scriptOf T) (n .strings) p) refl passes refl
+    where
+      go : (b : Bool) → writesBack (scriptOf T) (n .strings) p ≡ b → (t : Bool) → passes ≡ t → writesBack (scriptOf T) (n .strings) p ≡ passes
+      go true q t r = q ∙ sym (to-passes k a q)
+      go false q true r = to-written a r ∙ sym r
+      go false q false r = q ∙ sym r

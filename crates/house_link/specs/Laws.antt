@@ -1,0 +1,3 @@
+pub mod PoolEntries
+pub mod PoolRead
+pub mod PoolOrder

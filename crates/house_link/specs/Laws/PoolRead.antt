@@ -1,0 +1,98 @@
+-- Where the writing of a program that was read is the payload, the pool that was read is the one that gathering gives.
+use mathlib.Core.Bool.{Bool, false, true}
+use mathlib.Core.List.{List, [], _++_, _∷_, append-assoc, map}
+use mathlib.Core.Path.{_∙_, _≡_, ap, refl, sym}
+use Prim.Native.Nat.{_<_, _^_, zero, suc, ℕ}
+use native.Mathlib.Omega.{arith}
+use lib.ListN.{List·getD-map, getD, length, length-map}
+use lib.Seq.{ext-getD}
+use Rattle.slices.specs.Laws.Same.{same-refl}
+use Rattle.slices.specs.Same.{same}
+use Rattle.payload.specs.Choice.{if_then_else_}
+use Rattle.payload.specs.Laws.House.{IsWriting}
+use Rattle.payload.specs.Laws.Keeps.{invert}
+use Rattle.payload.specs.Laws.ReadBack.{pool-back}
+use Rattle.payload.specs.Laws.Rules.{Small}
+use Rattle.payload.specs.Reader.{Part, State, _>>=_, ok, pure, start}
+use Rattle.payload.specs.Reading.{Capacities, Context, Payload, readChunk, readLineIndex, readPayload, readPool}
+use Rattle.payload.specs.Trees.{LineIndex, Node, Script, forgetScript, single}
+use Rattle.payload.specs.Write.{hasBytes, internedParts}
+use Rattle.payload.specs.Writing.{concat, gathered, poolOf, writeLineIndex, writeTrees, writing}
+use Rattle.pool_index.specs.Laws.Distinct.{index-at, interned-distinct}
+use Rattle.pool_index.specs.Strings.{distinct}
+use Rattle.gather_link.specs.Laws.Parts.{bytesOf, pool-bytes}
+use Rattle.house_link.specs.Laws.PoolEntries.{Entries, Entry, entries-append, gathered-entries, noPart}
+
+---- entries of a pool that has no string twice
+
+entries-interned : (pool l xs : List Part) → Entries pool l → Entries pool xs → Entries pool (internedParts l xs)
+unfolding internedParts Entries
+entries-interned pool l [] h k = h
+entries-interned pool l (x ∷ xs) h k = entries-interned pool _ xs (go (hasBytes (x .bytes) l)) (k .1)
+  where
+    go : (t : Bool) → Entries pool (if_then_else_ t l (l ++ (x ∷ [])))
+    go true = unfold if_then_else_ in h
+    go false = unfold if_then_else_ in (entries-append pool l (x ∷ []) h (k .0, tt))
+
+entry-at : (pool xs : List Part) → Entries pool xs → (k : ℕ) → k < length xs → Entry pool (getD xs k noPart)
+unfolding Entries
+entry-at pool [] h k l = absurd (omega arith)
+entry-at pool (x ∷ xs) h zero l = h .0
+entry-at pool (x ∷ xs) h (suc k) l = entry-at pool xs (h .1) k (omega arith)
+
+bytes-at : (xs : List Part) (k : ℕ) → getD (bytesOf xs) k [] ≡ getD xs k noPart .bytes
+bytes-at xs k = List·getD-map (λ (l : Part). l .bytes) xs k noPart
+
+length-bytes : (xs : List Part) → length (bytesOf xs) ≡ length xs
+length-bytes xs = length-map xs (λ (l : Part). l .bytes)
+
+-- a string stands at one place
+pub entry-once : (pool : List Part) → distinct (bytesOf pool) ≡ true → (i k : ℕ) → i < length pool → k < length pool → getD pool i noPart .bytes ≡ getD pool k noPart .bytes → i ≡ k
+entry-once pool d i k hi hk q =
+    let x = getD pool k noPart .bytes in
+    let a : same x (getD (bytesOf pool) i []) ≡ true = rw (bytes-at pool i, q) (same-refl x) in
+    let b : same x (getD (bytesOf pool) k []) ≡ true = rw (bytes-at pool k) (same-refl x) in
+    sym (index-at x (bytesOf pool) i d (omega (arith, length-bytes pool)) a) ∙ index-at x (bytesOf pool) k d (omega (arith, length-bytes pool)) b
+
+-- entries with the bytes of all the pool's are the pool
+same-entries : (pool xs : List Part) → distinct (bytesOf pool) ≡ true → Entries pool xs → bytesOf xs ≡ bytesOf pool → xs ≡ pool
+same-entries pool xs d h e = ext-getD noPart xs pool long each
+  where
+    long : length xs ≡ length pool
+    long = sym (length-bytes xs) ∙ ap length e ∙ length-bytes pool
+
+    each : (k : ℕ) → k < length xs → getD xs k noPart ≡ getD pool k noPart
+    each k hk =
+        let f = entry-at pool xs h k hk in
+        let q : getD pool (f .index) noPart .bytes ≡ getD pool k noPart .bytes =
+        ap (λ (l : Part). l .bytes) (sym (f .is-entry)) ∙ sym (bytes-at xs k) ∙ ap (λ (l : List (List ℕ)). getD l k []) e ∙ bytes-at pool k in
+        f .is-entry ∙ ap (λ (i : ℕ). getD pool i noPart) (entry-once pool d (f .index) k (f .below) (omega (arith, long)) q)
+
+---- the pool of a payload that is a writing
+
+module _ (c : Capacities) (small : Small c) (listed : List ℕ → Bool) (p : List ℕ) (u : Payload) (z : State) (e : readPayload c listed (start p) ≡ ok u z) (w : IsWriting c listed p (forgetScript (u .script))) where
+  abbrev s : Script (List ℕ)
+  s = forgetScript (u .script)
+
+  abbrev after-pool : List ℕ
+  after-pool = concat (writeTrees (poolOf s) (single (s .outer))) ++ writeLineIndex (poolOf s) (s .line)
+
+  -- the pool that was read has the strings of the writing's pool
+  pub read-strings : bytesOf (u .pool) ≡ poolOf s
+  unfolding readPayload _>>=_ pure
+  read-strings =
+      let x = invert (readPool (c .maxStrings) (start p)) _ u z e in
+      let y = invert (readChunk (record { capacities = c; pool = x .0; listed = listed }) (x .1)) _ u z (x .3) in
+      let v = invert (readLineIndex (record { capacities = c; pool = x .0; listed = listed }) (y .1)) _ u z (y .3) in
+      let short : length (writing s) < 2 ^ 64 = let q = ap length (w .its-writing) in omega (arith, w .within) in
+      let g = pool-back c small listed s (w .sound) (w .named) (w .in-list) (w .fits) short .run (start p) after-pool (unfold writing in sym (w .its-writing)) (omega arith) (omega arith) in
+      let a : g .0 ≡ x .0 = cc (g .1, x .2) in
+      let b : x .0 ≡ u .pool = cc (v .3) in
+      ap bytesOf (sym b) ∙ ap bytesOf (sym a) ∙ g .2
+
+  -- and is the one that gathering gives
+  pub read-pool-interned : internedParts [] (gathered (u .script)) ≡ u .pool
+  unfolding Entries
+  read-pool-interned =
+      let d : distinct (bytesOf (u .pool)) ≡ true = rw read-strings (unfold poolOf in (interned-distinct _ [] (unfold distinct in refl))) in
+      same-entries (u .pool) _ d (entries-interned (u .pool) [] (gathered (u .script)) tt (gathered-entries c listed (start p) u z e)) (pool-bytes (u .script) ∙ sym read-strings)
