@@ -2,7 +2,7 @@
 use mathlib.Core.Bool.{Bool, false, true}
 use mathlib.Core.List.{List, [], _∷_}
 use Prim.Native.Nat.{_^_, ℕ}
-use lib.Dec.{eqb, ltb}
+use lib.Dec.{ltb}
 use lib.ListN.{length}
 use Rattle.slices.specs.Same.{same}
 use Rattle.payload.specs.Choice.{_and_}
@@ -38,11 +38,3 @@ isWriting (refused n q) p = false
 unfoldable pub poolWords : Result (Script Part) → List ℕ
 poolWords (ok u s) = partsWords (internedParts [] (gathered u))
 poolWords (refused n q) = []
-
--- how many strings it has
-unfoldable pub poolCount : Result (Script Part) → ℕ
-poolCount (ok u s) = length (internedParts [] (gathered u))
-poolCount (refused n q) = 0
-
-unfoldable pub writesBack : Result (Script Part) → ℕ → List ℕ → Bool
-writesBack x n p = eqb (poolCount x) n and isWriting x p

@@ -1,14 +1,12 @@
 // The house check: a payload is read, and passes where it is what the writer writes of the program that was read.
 ghost use mathlib.Core.Path.{_≡_};
 ghost use mathlib.Core.Bool.{true};
-ghost use Prim.Native.Nat.{_*_, _≤_};
-ghost use lib.ListN.{length, take};
+ghost use Prim.Native.Nat.{_≤_};
+ghost use lib.ListN.{length};
 ghost use Rattle.payload.specs.House.{house, isOk};
 ghost use Rattle.payload.specs.Sound.{scriptOf};
 ghost use Rattle.payload.specs.Tables.{capacitiesOf, Leaves};
-ghost use Rattle.gather.specs.Gather.{stringCapacity};
-ghost use Rattle.house.specs.Written.{allPositions, AcceptedRead, wholeTables, isWriting, poolWords, writesBack};
-use gather::Gathered;
+ghost use Rattle.house.specs.Written.{allPositions, AcceptedRead, wholeTables, isWriting, poolWords};
 use payload::Counts;
 use payload::Read;
 
@@ -49,50 +47,19 @@ fn is_writing(
     write_rows::agrees(payload, payload, pool, rows, spans, flag, name_o as u64, name_n as u64, starts)
 }
 
-// The same with so many gathered strings, which go to the pool table.
-fn writes_back(
-    payload: &[u8],
-    rows: &[u64],
-    spans: &[u64],
-    starts: &[u32],
-    flag: u64,
-    name_o: usize,
-    name_n: usize,
-    pool: &mut [u64],
-    strings: usize,
-) -> bool
-    requires { ⌜ (length (now payload) ≤ 16777216) × (strings ≤ stringCapacity (length (now pool))) ⌝ }
-    requires { ⌜ isOk (scriptOf (wholeTables (now payload) (now rows) (now spans) (now starts) flag «name_o» «name_n»)) ≡ true ⌝ }
-    ensures { λ r. ⌜ r ≡ writesBack (scriptOf (wholeTables (now (payload .entry)) (now (rows .entry)) (now (spans .entry)) (now (starts .entry)) flag «name_o» «name_n»)) strings (now (payload .entry)) ⌝ }
-    ensures { λ r. ⌜ (r ≡ true → take (2 * strings) (now (pool .exit)) ≡ poolWords (scriptOf (wholeTables (now (payload .entry)) (now (rows .entry)) (now (spans .entry)) (now (starts .entry)) flag «name_o» «name_n»))) ⌝ }
-{
-    match gather::gather_strings(payload, rows, flag, name_o, name_n, pool) {
-        Gathered::Pooled(count) => {
-            if count != strings {
-                return false;
-            }
-            let first: usize = 0;
-            let end = 2 * count;
-            is_writing(payload, rows, spans, starts, flag, name_o, name_n, &pool[first..end])
-        }
-        Gathered::Full => false,
-    }
-}
-
-// Whether a payload that was read is house-written: all bytes are consumed, positions are sound, as all else that was read is, and the writing is the
-// payload. Gathering goes into the pool table, whose entries stay what they were where the payload passes.
+// Whether a payload that was read is house-written: all bytes are consumed; positions are sound, as all else that was read is; the pool has each gathered
+// string once, in the order of first use; and the writing is the payload.
 fn is_house_written(
     payload: &[u8],
     names: &[u8],
     rows: &[u64],
     spans: &[u64],
     starts: &[u32],
-    pool: &mut [u64],
+    pool: &[u64],
     counts: Counts,
 ) -> bool
     requires { ⌜ AcceptedRead (now names) (now payload) (now rows) (now spans) (now starts) (now pool) counts ⌝ }
     ensures { λ r. ⌜ r ≡ isOk (house (capacitiesOf (length (now (rows .entry))) (length (now (spans .entry))) (length (now (starts .entry))) (length (now (pool .entry)))) (now (names .entry)) (now (payload .entry))) ⌝ }
-    ensures { λ r. ⌜ (r ≡ true → take (2 * counts .strings) (now (pool .exit)) ≡ take (2 * counts .strings) (now (pool .entry))) ⌝ }
 {
     if counts.consumed != payload.len() {
         return false;
@@ -101,10 +68,17 @@ fn is_house_written(
     let rows_end = ROW_WIDTH * counts.rows;
     let spans_end = 2 * counts.spans;
     let starts_end = counts.starts;
+    let pool_end = 2 * counts.strings;
     if !are_positions(&spans[first..spans_end]) {
         return false;
     }
-    writes_back(
+    if pool_check::strings_met(payload, &rows[first..rows_end], counts.flag, counts.name_o, counts.name_n, &pool[first..pool_end]) != counts.strings {
+        return false;
+    }
+    if !pool_check::are_distinct(payload, &pool[first..pool_end]) {
+        return false;
+    }
+    is_writing(
         payload,
         &rows[first..rows_end],
         &spans[first..spans_end],
@@ -112,8 +86,7 @@ fn is_house_written(
         counts.flag,
         counts.name_o,
         counts.name_n,
-        pool,
-        counts.strings,
+        &pool[first..pool_end],
     )
 }
 
@@ -131,7 +104,6 @@ pub fn house_check(
     match deserialize::deserialize_payload(payload, names, rows, spans, starts, pool) {
         Read::Accepted(counts) => {
             if is_house_written(payload, names, rows, spans, starts, pool, counts) {
-                slices::zero_u64_from(pool, 2 * counts.strings);
                 return Read::Accepted(counts);
             }
             slices::zero_u64_from(rows, 0);

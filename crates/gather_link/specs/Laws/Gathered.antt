@@ -54,14 +54,19 @@ module _ (T : Tables) (u : Script Part) (end : State) (e : scriptOf T ≡ ok u e
   unfolding forgetScript forgetNode single
   rows-used = row-count ∙ sym (size-forget ts) ∙ unfold forgetTrees in refl
 
-  -- the parts that gathering finds are those of the script
-  pub pooled-is : pooledParts (T .store) (T .rows) (T .flag) (T .nameOffset) (T .nameLength) ≡ internedParts [] (gathered u)
-  unfolding pooledParts gathered tablesOf
-  pooled-is =
+  -- the strings that gathering finds are those of the script
+  pub strings-found : rowsParts (T .store) (length (T .rows) / rowWidth) (T .rows) ++ nameParts (T .store) (T .flag) (T .nameOffset) (T .nameLength) ≡ gathered u
+  unfolding gathered tablesOf
+  strings-found =
       let h = sound-holds T u end e in
-      ap (internedParts []) (ap₂ (λ (x y : List Part). x ++ y)
+      ap₂ (λ (x y : List Part). x ++ y)
       (ap₂ (λ (n : ℕ) (w : List ℕ). rowsParts (T .store) n w) row-count rows-are ∙ trees-parts (T .store) ts [] rows-kinded (h .in-trees))
-      (name-parts (T .store) (u .line) (T .flag) (T .nameOffset) (T .nameLength) (h .in-line) (ap (λ (U : Tables). U .flag) (h .is-tables)) (ap (λ (U : Tables). U .nameOffset) (h .is-tables)) (ap (λ (U : Tables). U .nameLength) (h .is-tables))))
+      (name-parts (T .store) (u .line) (T .flag) (T .nameOffset) (T .nameLength) (h .in-line) (ap (λ (U : Tables). U .flag) (h .is-tables)) (ap (λ (U : Tables). U .nameOffset) (h .is-tables)) (ap (λ (U : Tables). U .nameLength) (h .is-tables)))
+
+  -- so are their parts, each at its first place
+  pub pooled-is : pooledParts (T .store) (T .rows) (T .flag) (T .nameOffset) (T .nameLength) ≡ internedParts [] (gathered u)
+  unfolding pooledParts
+  pooled-is = ap (internedParts []) strings-found
 
   pub gathered-pooled : (capacity n : ℕ) → answer.Pooled n ≡ gatherAnswer capacity (pooledParts (T .store) (T .rows) (T .flag) (T .nameOffset) (T .nameLength)) → (n ≡ length (internedParts [] (gathered u))) × (n ≤ capacity)
   gathered-pooled capacity n q = pooled-fits capacity n (internedParts [] (gathered u)) (q ∙ ap (gatherAnswer capacity) pooled-is)

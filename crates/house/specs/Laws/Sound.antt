@@ -1,11 +1,11 @@
--- What gathering, the search for record names and the comparison say of the tables of a sound program.
+-- What the search for record names and the comparison say of the tables of a sound program.
 use mathlib.Core.Bool.{Bool, false, true}
 use mathlib.Core.List.{List, []}
 use mathlib.Core.Path.{_∙_, _≡_, ap, refl, sym}
-use Prim.Native.Nat.{_*_, _/_, _<_, _≤_, ℕ}
+use Prim.Native.Nat.{_/_, _<_, _≤_, ℕ}
 use native.Mathlib.Omega.{arith}
 use lib.Dec.{eqb}
-use lib.ListN.{length, take}
+use lib.ListN.{length}
 use borrow.Author.Tests.{eq-eqb, ne-eqb}
 use Rattle.slices.specs.Same.{same}
 use Rattle.payload.specs.Choice.{_and_}
@@ -24,12 +24,9 @@ use Rattle.write_rows.specs.Payload.{payloadBytes}
 use Rattle.write_rows.specs.Reached.{Writable}
 use Rattle.write_rows.specs.Walk.{held}
 use Rattle.write_link.specs.Laws.Writing.{sound-writable, walk-is-writing}
-use Rattle.gather.specs.Gather.{entryCount, entryWords, gatherAnswer, pooledParts}
 use Rattle.gather.specs.Named.{rowsNamed}
-use Rattle.gather.specs.declared.Gathered.{Gathered}
-use Rattle.gather.specs.declared.Gathered.the-variants as answer
-use Rattle.gather_link.specs.Laws.Gathered.{entries-pooled, gathered-full, gathered-pooled, pooled-distinct, pooled-strings, rows-used, unnamed-is}
-use Rattle.house.specs.Written.{isWriting, poolCount, poolWords, writesBack}
+use Rattle.gather_link.specs.Laws.Gathered.{pooled-distinct, pooled-strings, rows-used, unnamed-is}
+use Rattle.house.specs.Written.{isWriting, poolWords}
 
 -- the definitions of a sound program's answers, by its script
 writing-of : (x : Result (Script Part)) (u : Script Part) (s : State) (p : List ℕ) → x ≡ ok u s → isWriting x p ≡ (allNamed (forgetScript u) and same (writing (forgetScript u)) p)
@@ -39,10 +36,6 @@ writing-of x u s p e = rw e
 words-of : (x : Result (Script Part)) (u : Script Part) (s : State) → x ≡ ok u s → poolWords x ≡ partsWords (internedParts [] (gathered u))
 unfolding poolWords
 words-of x u s e = rw e
-
-count-of : (x : Result (Script Part)) (u : Script Part) (s : State) → x ≡ ok u s → poolCount x ≡ length (internedParts [] (gathered u))
-unfolding poolCount
-count-of x u s e = rw e
 
 named-of : (s : Script (List ℕ)) (k n : ℕ) → k ≡ namedRows (poolOf s) (single (s .outer)) → n ≡ size (single (s .outer)) → n ≤ k → allNamed s ≡ true
 unfolding allNamed
@@ -83,28 +76,3 @@ module _ (T : Tables) (h : isOk (scriptOf T) ≡ true) where
         let w = walk-is-writing T u z e (poolStrings (T .store) pool) (pooled-strings T u z e pool words) in
         let a : r ≡ same (writing (forgetScript u)) p = g ∙ ap (λ (b : List ℕ). same b p) w in
         a ∙ sym (writing-of (scriptOf T) u z p e ∙ rw (named-of (forgetScript u) k (length (T .rows) / rowWidth) (f ∙ unnamed-is T u z e pool words) (rows-used T u z e) l))
-
-  abbrev found : List Part
-  found = pooledParts (T .store) (T .rows) (T .flag) (T .nameOffset) (T .nameLength)
-
-  pub pooled-count : (capacity n : ℕ) → answer.Pooled n ≡ gatherAnswer capacity found → n ≡ poolCount (scriptOf T)
-  pooled-count capacity n q = gathered-pooled T u z e capacity n q .0 ∙ sym (count-of (scriptOf T) u z e)
-
-  pub pooled-words : {r : Gathered} (n : ℕ) (pool : List ℕ) → r ≡ answer.Pooled n → take (2 * entryCount r) pool ≡ entryWords r found → take (2 * n) pool ≡ poolWords (scriptOf T)
-  unfolding entryCount
-  pooled-words n pool f q = entries-pooled T u z e (take (2 * n) pool) n (rw f at q) ∙ sym (words-of (scriptOf T) u z e)
-
-  pub other-count : (n strings : ℕ) (p : List ℕ) → n ≡ poolCount (scriptOf T) → (n ≡ strings → ⊥) → false ≡ writesBack (scriptOf T) strings p
-  unfolding writesBack _and_
-  other-count n strings p q ne = rw (ne-eqb (poolCount (scriptOf T)) strings (λ f. ne (q ∙ f)))
-
-  pub too-many : (capacity strings : ℕ) (p : List ℕ) → answer.Full ≡ gatherAnswer capacity found → strings ≤ capacity → false ≡ writesBack (scriptOf T) strings p
-  unfolding writesBack _and_
-  too-many capacity strings p q l =
-      let g = gathered-full T u z e capacity q in
-      let c = count-of (scriptOf T) u z e in
-      rw (ne-eqb (poolCount (scriptOf T)) strings (λ f. omega arith))
-
-  pub same-count : {r : Bool} (n strings : ℕ) (p : List ℕ) → n ≡ poolCount (scriptOf T) → n ≡ strings → r ≡ isWriting (scriptOf T) p → r ≡ writesBack (scriptOf T) strings p
-  unfolding writesBack _and_
-  same-count n strings p q f g = rw (eq-eqb (poolCount (scriptOf T)) strings (sym q ∙ f)) g

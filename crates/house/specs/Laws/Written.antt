@@ -3,24 +3,23 @@ use mathlib.Core.Bool.{Bool, false, true}
 use mathlib.Core.List.{List, [], _++_, _∷_}
 use mathlib.Core.Option.{Option, none, some}
 use mathlib.Core.Path.{_∙_, _≡_, ap, ap₂, refl, subst, sym}
-use Prim.Native.Nat.{_*_, _+_, _-_, _/_, _^_, _≤_, min, ℕ}
+use Prim.Native.Nat.{_*_, _+_, _-_, _/_, _^_, _≤_, ℕ}
 use native.Mathlib.Omega.{arith}
-use lib.Dec.{eqb, ltb}
+use lib.Dec.{ltb}
 use lib.ListN.{drop, length, length-append, take}
 use lib.Seq.{drop-length, take-at}
-use borrow.Author.Tests.{eq-eqb, eqb-true}
+use borrow.Author.Tests.{eqb-true}
 use Rattle.slices.specs.Laws.LittleEndian.{Bytes}
-use Rattle.slices.specs.Laws.Same.{same-eq, same-refl}
-use Rattle.slices.specs.Same.{same}
+use Rattle.slices.specs.Laws.Same.{same-refl}
 use Rattle.slices.specs.Zeros.{padTo}
 use Rattle.payload.specs.Choice.{_and_, if_then_else_}
 use Rattle.payload.specs.Demand3.{allItems, allOf}
-use Rattle.payload.specs.House.{allNamed, checked, house, houseWritten, isOk}
+use Rattle.payload.specs.House.{checked, house, houseWritten, isOk}
 use Rattle.payload.specs.Laws.Demand3.{small-capacities}
 use Rattle.payload.specs.Laws.Equal.{single-bytes}
 use Rattle.payload.specs.Laws.Given.{length-span-words, small-span-table}
 use Rattle.payload.specs.Laws.House.{IsWriting, house-reads, is-named, is-ok, read-back, read-holds, reading-ok, small-trees}
-use Rattle.payload.specs.Laws.Kept.{itemRead}
+use Rattle.payload.specs.Laws.Kept.{TextsIn, itemRead}
 use Rattle.payload.specs.Laws.Pool.{and-both, and-left, and-right, false≢true}
 use Rattle.payload.specs.Laws.ReadSound.{ReadIs, read-is}
 use Rattle.payload.specs.Laws.Rules.{SoundScript}
@@ -28,18 +27,26 @@ use Rattle.payload.specs.Laws.SoundTables.{holds-sound, obeyed-width}
 use Rattle.payload.specs.Names.{isListed}
 use Rattle.payload.specs.Reader.{Part, Result, State, ok, refused, start}
 use Rattle.payload.specs.Reading.{Capacities, Payload, readPayload}
-use Rattle.payload.specs.Rows.{itemsSpans, partWords, rowTable, spanTable}
+use Rattle.payload.specs.Rows.{itemsSpans, partWords, rowTable, rowWidth, spanTable}
 use Rattle.payload.specs.Sound.{Tables, isNil, scriptOf}
 use Rattle.payload.specs.Spans.{Span, smallSpans}
 use Rattle.payload.specs.Tables.{Leaves, capacitiesOf, lineFlag, lineName, lineStarts, partsWords, readAnswer, reading, sizeLimit, spanWords, tablesOf, usedPool, usedRows, usedSpans, usedStarts}
 use Rattle.payload.specs.Trees.{Item, LineIndex, Script, Trees, code, forgetItem, forgetItems, forgetLine, forgetNode, forgetScript, forgetTrees, nativeName, nil, node, number, recordName, single, size, spanCount, spanItem, spanItems, startCount, string}
 use Rattle.payload.specs.Write.{internedParts}
-use Rattle.payload.specs.Writing.{gathered, writing}
+use Rattle.payload.specs.Writing.{gathered, poolOf}
 use Rattle.payload.specs.declared.Counts.{Counts}
 use Rattle.payload.specs.declared.Read.{Read}
 use Rattle.payload.specs.declared.Read.the-variants as read
-use Rattle.house_link.specs.Laws.PoolRead.{read-pool-interned}
-use Rattle.house.specs.Written.{AcceptedRead, allPositions, isWriting, poolCount, poolWords, wholeTables, writesBack}
+use Rattle.pool_index.specs.Laws.Distinct.{interned-distinct}
+use Rattle.pool_index.specs.Strings.{bytesAt, distinct, poolStrings}
+use Rattle.gather.specs.Gather.{nameParts, rowsParts}
+use Rattle.gather_link.specs.Laws.Gathered.{strings-found}
+use Rattle.gather_link.specs.Laws.Parts.{bytesOf}
+use Rattle.pool_check.specs.Order.{Met, meetAll}
+use Rattle.house_link.specs.Laws.PoolEntries.{Entries, gathered-entries}
+use Rattle.house_link.specs.Laws.PoolOrder.{Rising, interned-order, order-interned, pool-rises}
+use Rattle.house_link.specs.Laws.PoolRead.{read-pool-interned, read-strings}
+use Rattle.house.specs.Written.{AcceptedRead, allPositions, isWriting, poolWords, wholeTables}
 
 ---- the words of spans
 
@@ -64,10 +71,15 @@ trees-spans nil h = refl
 trees-spans (node t is ks ts) h = omega (arith, length-append (itemsSpans is) (spanTable ks ++ spanTable ts), length-append (spanTable ks) (spanTable ts),
     items-spans is (and-left _ _ h), trees-spans ks (and-left _ _ (and-right _ _ h)), trees-spans ts (and-right _ _ (and-right _ _ h)))
 
-pub parts-words : (xs : List Part) → length (partsWords xs) ≡ 2 * length xs
+parts-words : (xs : List Part) → length (partsWords xs) ≡ 2 * length xs
 unfolding partsWords partWords
 parts-words [] = refl
 parts-words (x ∷ xs) = let h = parts-words xs in omega arith
+
+strings-read : (p : List ℕ) (xs : List Part) → TextsIn p xs → poolStrings p (partsWords xs) ≡ bytesOf xs
+unfolding poolStrings partsWords partWords bytesAt TextsIn
+strings-read p [] h = refl
+strings-read p (x ∷ xs) h = ap₂ (λ (b : List ℕ) (l : List (List ℕ)). b ∷ l) (h .0 .text-stands .its-bytes) (strings-read p xs (h .1))
 
 ---- what an accepted read left
 
@@ -104,6 +116,11 @@ lent-words k l = let e : k - 0 ≡ k = omega arith in rw e
 pub lent-tables : (p : List ℕ) (n : Counts) (rows spans starts : List ℕ) → lentTables p n rows spans starts ≡ readTables p n rows spans starts
 lent-tables p n rows spans starts = λ i. wholeTables p (lent-words (5 * n .rows) rows i) (lent-words (2 * n .spans) spans i) (lent-words (n .starts) starts i) (n .flag) (n .«name_o») (n .«name_n»)
 
+pub lent-met : (p : List ℕ) (n : Counts) (rows pool : List ℕ) {r : ℕ}
+    → Met (take (2 * n .strings - 0) pool) 0 (rowsParts p (length (take (5 * n .rows - 0) rows) / rowWidth) (take (5 * n .rows - 0) rows) ++ nameParts p (n .flag) (n .«name_o») (n .«name_n»)) r
+    → Met (take (2 * n .strings) pool) 0 (rowsParts p (length (take (5 * n .rows) rows) / rowWidth) (take (5 * n .rows) rows) ++ nameParts p (n .flag) (n .«name_o») (n .«name_n»)) r
+lent-met p n rows pool g = rw (lent-words (5 * n .rows) rows, lent-words (2 * n .strings) pool) at g
+
 pub record WasRead (names p rows spans starts pool : List ℕ) (n : Counts) : Type 0 where
   pub u : Payload
   pub s : State
@@ -119,7 +136,7 @@ pub record WasRead (names p rows spans starts pool : List ℕ) (n : Counts) : Ty
   pub rows-fit : 5 * n .rows ≤ length rows
   pub spans-fit : 2 * n .spans ≤ length spans
   pub starts-fit : n .starts ≤ length starts
-  pub strings-fit : n .strings ≤ min (length pool / 2) 1048576
+  pub strings-fit : 2 * n .strings ≤ length pool
 
 module _ {names p rows spans starts pool : List ℕ} {n : Counts} (h : AcceptedRead names p rows spans starts pool n) (bytes : Bytes p) where
   abbrev c : Capacities
@@ -224,36 +241,69 @@ module _ {names p rows spans starts pool : List ℕ} {n : Counts} (w : WasRead n
   pool-of-passed : passes ≡ true → internedParts [] (gathered (w .u .script)) ≡ w .u .pool
   pool-of-passed e = read-pool-interned caps (small-capacities _ _ _ _) (isListed names) p (w .u) (w .s) (w .payload-read) (writing-read e)
 
-  pub pool-kept : allPositions (take (2 * n .spans) spans) ≡ true → passes ≡ true → poolWords (scriptOf T) ≡ take (2 * n .strings) pool
-  unfolding poolWords
-  pool-kept a e = let g = sound-tables a in ap poolWords (g .1) ∙ ap partsWords (pool-of-passed e) ∙ sym (w .pool-is)
+  pool-entries : Entries (w .u .pool) (gathered (w .u .script))
+  pool-entries = gathered-entries caps (isListed names) (start p) (w .u) (w .s) (w .payload-read)
 
-  all-read : n .consumed ≡ length p → isNil (w .s .rest) ≡ true
-  unfolding isNil
-  all-read e = let q : w .s .place ≡ length p = sym (w .consumed) ∙ e in ap isNil (w .has .place-is ∙ ap (λ (k : ℕ). drop k p) q ∙ drop-length p)
+  pool-rising : Rising 0 (w .u .pool)
+  pool-rising = pool-rises caps (isListed names) (start p) (w .u) (w .s) (w .payload-read)
 
-  to-passes : n .consumed ≡ length p → allPositions (take (2 * n .spans) spans) ≡ true → writesBack (scriptOf T) (n .strings) p ≡ true → passes ≡ true
-  unfolding writesBack isWriting houseWritten house checked if_then_else_ isOk
-  to-passes k a e =
-      let g = sound-tables a in
-      let b : (eqb (poolCount (scriptOf T)) (n .strings) and isWriting (scriptOf T) p) ≡ true = e in
-      let d : isWriting (ok (w .u .script) (g .0)) p ≡ true = ap (λ (x : Result (Script Part)). isWriting x p) (sym (g .1)) ∙ and-right _ _ b in
-      let sound : isOk (scriptOf (tablesOf p (w .u .script))) ≡ true = ap (λ (U : Tables). isOk (scriptOf U)) (sym (w .tables-are)) ∙ is-sound a in
-      let t : houseWritten p (w .u) (w .s) ≡ true = and-both (all-read k) (and-both sound d) in
-      rw (w .is, t)
+  -- the strings of the pool table are those that were read
+  table-strings : poolStrings p (take (2 * n .strings) pool) ≡ bytesOf (w .u .pool)
+  table-strings = ap (poolStrings p) (w .pool-is) ∙ strings-read p (w .u .pool) (w .has .pool-stands)
 
-  to-written : allPositions (take (2 * n .spans) spans) ≡ true → passes ≡ true → writesBack (scriptOf T) (n .strings) p ≡ true
-  unfolding writesBack isWriting poolCount
-  to-written a e =
-      let g = sound-tables a in
-      let i = writing-read e in
-      let count : length (internedParts [] (gathered (w .u .script))) ≡ n .strings = ap length (pool-of-passed e) ∙ sym (w .strings) in
-      rw (g .1) (and-both (eq-eqb _ _ count) (and-both (is-named _ (i .named)) (rw (i .its-writing) (same-refl p))))
+  once-passed : passes ≡ true → distinct (bytesOf (w .u .pool)) ≡ true
+  once-passed e = rw (read-strings caps (small-capacities _ _ _ _) (isListed names) p (w .u) (w .s) (w .payload-read) (writing-read e)) (unfold poolOf in (interned-distinct _ [] (unfold distinct in refl)))
 
-  pub written-is : n .consumed ≡ length p → allPositions (take (2 * n .spans) spans) ≡ true → writesBack (scriptOf T) (n .strings) p ≡ passes
-  written-is k a = go (writesBack (scriptOf T) (n .strings) p) refl passes refl
-    where
-      go : (b : Bool) → writesBack (scriptOf T) (n .strings) p ≡ b → (t : Bool) → passes ≡ t → writesBack (scriptOf T) (n .strings) p ≡ passes
-      go true q t r = q ∙ sym (to-passes k a q)
-      go false q true r = to-written a r ∙ sym r
-      go false q false r = q ∙ sym r
+  pub not-once : false ≡ distinct (poolStrings p (take (2 * n .strings) pool)) → false ≡ passes
+  not-once f = refutes (λ e. false≢true (f ∙ ap distinct table-strings ∙ once-passed e))
+
+  module _ (a : allPositions (take (2 * n .spans) spans) ≡ true) where
+    -- the strings that rows and name give
+    abbrev found : List Part
+    found = rowsParts (T .store) (length (T .rows) / rowWidth) (T .rows) ++ nameParts (T .store) (T .flag) (T .nameOffset) (T .nameLength)
+
+    found-is : found ≡ gathered (w .u .script)
+    found-is = let g = sound-tables a in strings-found T (w .u .script) (g .0) (g .1)
+
+    met-is : {r : ℕ} → Met (take (2 * n .strings) pool) 0 found r → r ≡ meetAll (partsWords (w .u .pool)) 0 (gathered (w .u .script))
+    met-is m = m .is ∙ ap₂ (λ (l : List ℕ) (xs : List Part). meetAll l 0 xs) (w .pool-is) found-is
+
+    pub not-met : {r : ℕ} → Met (take (2 * n .strings) pool) 0 found r → (r ≡ n .strings → ⊥) → false ≡ passes
+    not-met m ne = refutes (λ e. ne (met-is m ∙ interned-order (w .u .pool) pool-rising (once-passed e) (gathered (w .u .script)) pool-entries (pool-of-passed e) ∙ sym (w .strings)))
+
+    -- strings that differ and are first used in the pool's order: the pool table is the one that gathering gives
+    pub table-gathered : {r : ℕ} → Met (take (2 * n .strings) pool) 0 found r → r ≡ n .strings → distinct (poolStrings p (take (2 * n .strings) pool)) ≡ true → take (2 * n .strings) pool ≡ poolWords (scriptOf T)
+    unfolding poolWords
+    table-gathered m f d =
+        let g = sound-tables a in
+        let once : distinct (bytesOf (w .u .pool)) ≡ true = ap distinct (sym table-strings) ∙ d in
+        let i = order-interned (w .u .pool) pool-rising once (gathered (w .u .script)) pool-entries (sym (met-is m) ∙ f ∙ w .strings) in
+        w .pool-is ∙ ap partsWords (sym i) ∙ ap poolWords (sym (g .1))
+
+    all-read : n .consumed ≡ length p → isNil (w .s .rest) ≡ true
+    unfolding isNil
+    all-read e = let q : w .s .place ≡ length p = sym (w .consumed) ∙ e in ap isNil (w .has .place-is ∙ ap (λ (k : ℕ). drop k p) q ∙ drop-length p)
+
+    to-passes : n .consumed ≡ length p → isWriting (scriptOf T) p ≡ true → passes ≡ true
+    unfolding isWriting houseWritten house checked if_then_else_ isOk
+    to-passes k e =
+        let g = sound-tables a in
+        let d : isWriting (ok (w .u .script) (g .0)) p ≡ true = ap (λ (x : Result (Script Part)). isWriting x p) (sym (g .1)) ∙ e in
+        let sound : isOk (scriptOf (tablesOf p (w .u .script))) ≡ true = ap (λ (U : Tables). isOk (scriptOf U)) (sym (w .tables-are)) ∙ is-sound a in
+        let t : houseWritten p (w .u) (w .s) ≡ true = and-both (all-read k) (and-both sound d) in
+        rw (w .is, t)
+
+    to-writing : passes ≡ true → isWriting (scriptOf T) p ≡ true
+    unfolding isWriting
+    to-writing e =
+        let g = sound-tables a in
+        let i = writing-read e in
+        rw (g .1) (and-both (is-named _ (i .named)) (rw (i .its-writing) (same-refl p)))
+
+    pub writing-is : n .consumed ≡ length p → isWriting (scriptOf T) p ≡ passes
+    writing-is k = go (isWriting (scriptOf T) p) refl passes refl
+      where
+        go : (b : Bool) → isWriting (scriptOf T) p ≡ b → (t : Bool) → passes ≡ t → isWriting (scriptOf T) p ≡ passes
+        go true q t r = q ∙ sym (to-passes k q)
+        go false q true r = to-writing r ∙ sym r
+        go false q false r = q ∙ sym r

@@ -3,7 +3,8 @@ use mathlib.Core.Bool.{Bool, false, true}
 use mathlib.Core.List.{List, [], _++_, _∷_, append-assoc, append-nil}
 use mathlib.Core.Logic.{⊎-elim, _⊎_, inl, inr}
 use mathlib.Core.Path.{_∙_, _≡_, ap, refl, sym}
-use Prim.Native.Nat.{_*_, _+_, _<_, _≤_, suc, zero, ℕ}
+use Prim.Native.Nat.{_*_, _+_, _/_, _<_, _≤_, suc, zero, ℕ}
+use native.Mathlib.Numerals.{add-one}
 use native.Mathlib.Omega.{arith}
 use lib.Dec.{eqb, ltb}
 use lib.ListN.{List·getD-append, drop, getD, length, length-append, take}
@@ -20,10 +21,13 @@ use Rattle.payload.specs.Laws.Keeps.{invert, not-ok}
 use Rattle.payload.specs.Numbers.{afterVarint, varint}
 use Rattle.payload.specs.Reader.{Part, Result, State, _>>=_, _>>_, advanced, andThen, body, here, must, ok, pure, start}
 use Rattle.payload.specs.Reading.{Capacities, Context, Payload, readChunk, readLineIndex, readPayload, readPool, readString, readStrings}
+use Rattle.payload.specs.Rows.{partWords}
+use Rattle.payload.specs.Tables.{partsWords}
 use Rattle.payload.specs.Write.{hasBytes, internedParts}
 use Rattle.pool_index.specs.Laws.Distinct.{index-at}
 use Rattle.pool_index.specs.Strings.{distinct}
 use Rattle.gather_link.specs.Laws.Parts.{bytesOf}
+use Rattle.pool_check.specs.Order as words
 use Rattle.house_link.specs.Laws.PoolEntries.{Entries, Entry, noPart}
 use Rattle.house_link.specs.Laws.PoolRead.{entry-once}
 
@@ -128,17 +132,33 @@ rises-between p (x ∷ xs) r (suc i) (suc j) l h = rises-between (x .offset) xs 
 ---- strings met in the pool's order
 
 -- how many entries are met after one more string: a new one where it is the next; past the count where it is a later one
-unfoldable pub meet : List Part → ℕ → Part → ℕ
+unfoldable meet : List Part → ℕ → Part → ℕ
 meet pool k x = if ltb k (length pool) then (if eqb (x .offset) (getD pool k noPart .offset) then suc k else if ltb (getD pool k noPart .offset) (x .offset) then suc (length pool) else k) else k
 
-unfoldable pub meetAll : List Part → ℕ → List Part → ℕ
+unfoldable meetAll : List Part → ℕ → List Part → ℕ
 meetAll pool k [] = k
 meetAll pool k (x ∷ xs) = meetAll pool (meet pool k x) xs
 
-pub meet-append : (pool : List Part) (k : ℕ) (xs ys : List Part) → meetAll pool k (xs ++ ys) ≡ meetAll pool (meetAll pool k xs) ys
-unfolding meetAll
-meet-append pool k [] ys = refl
-meet-append pool k (x ∷ xs) ys = meet-append pool (meet pool k x) xs ys
+-- the words of a pool table tell the same
+offset-word : (pool : List Part) (k : ℕ) → getD (partsWords pool) (2 * k) 0 ≡ getD pool k noPart .offset
+unfolding partsWords partWords
+offset-word [] k = refl
+offset-word (x ∷ pool) zero = refl
+offset-word (x ∷ pool) (suc k) = let e : 2 * suc k ≡ suc (suc (2 * k)) = omega arith in rw e (offset-word pool k)
+
+word-count : (pool : List Part) → length (partsWords pool) / 2 ≡ length pool
+unfolding partsWords partWords
+word-count [] = refl
+word-count (x ∷ pool) = let e = word-count pool in omega arith
+
+words-meet : (pool : List Part) (k o : ℕ) (x : Part) → o ≡ x .offset → words.meet (partsWords pool) k o ≡ meet pool k x
+unfolding words.meet meet
+words-meet pool k o x e = rw (offset-word pool k, word-count pool, e, add-one k, add-one (length pool))
+
+words-meet-all : (pool : List Part) (k : ℕ) (xs : List Part) → words.meetAll (partsWords pool) k xs ≡ meetAll pool k xs
+unfolding words.meetAll meetAll
+words-meet-all pool k [] = refl
+words-meet-all pool k (x ∷ xs) = ap (λ (j : ℕ). words.meetAll (partsWords pool) j xs) (words-meet pool k (x .offset) x refl) ∙ words-meet-all pool (meet pool k x) xs
 
 meet-past : (pool : List Part) (k : ℕ) → length pool < k → (xs : List Part) → meetAll pool k xs ≡ k
 unfolding meetAll meet if_then_else_
@@ -278,8 +298,8 @@ module _ (pool : List Part) (rising : Rising 0 pool) (once : distinct (bytesOf p
   all-pooled [] h k u e = let q : take k pool ≡ pool = unfold internedParts in e in let l : length (take k pool) ≡ length pool = ap length q in omega (arith, length-take-le k pool u)
   all-pooled (y ∷ xs) h k u e = one-pooled y xs k (h .0) u (all-pooled xs (h .1)) e
 
-  pub order-interned : (xs : List Part) → Entries pool xs → meetAll pool 0 xs ≡ length pool → internedParts [] xs ≡ pool
-  order-interned xs h e = all-met xs h 0 (omega arith) e
+  pub order-interned : (xs : List Part) → Entries pool xs → words.meetAll (partsWords pool) 0 xs ≡ length pool → internedParts [] xs ≡ pool
+  order-interned xs h e = all-met xs h 0 (omega arith) (sym (words-meet-all pool 0 xs) ∙ e)
 
-  pub interned-order : (xs : List Part) → Entries pool xs → internedParts [] xs ≡ pool → meetAll pool 0 xs ≡ length pool
-  interned-order xs h e = all-pooled xs h 0 (omega arith) e
+  pub interned-order : (xs : List Part) → Entries pool xs → internedParts [] xs ≡ pool → words.meetAll (partsWords pool) 0 xs ≡ length pool
+  interned-order xs h e = words-meet-all pool 0 xs ∙ all-pooled xs h 0 (omega arith) e

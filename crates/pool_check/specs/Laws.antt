@@ -1,0 +1,3 @@
+pub mod Order
+pub mod Hash
+pub mod Chains

@@ -1,0 +1,4 @@
+pub mod Order
+pub mod Hash
+pub mod Chains
+pub mod Laws
