@@ -43,9 +43,14 @@ impl Random {
         self.bytes(count)
     }
 
+    pub fn words(&mut self, count: usize) -> Vec<u64> {
+        (0..count).map(|_| self.draw()).collect()
+    }
+
     /// Fewer words than `bound`.
     pub fn some_words(&mut self, bound: usize) -> Vec<u64> {
-        (0..self.below(bound)).map(|_| self.draw()).collect()
+        let count = self.below(bound);
+        self.words(count)
     }
 
     /// A number of a bit length drawn first, so that small ones are as likely as large ones.

@@ -57,3 +57,12 @@ pub fn deserialize_payload(
 ) -> Result<(Chunk, Option<LineIndex>), String> {
     super::deserialize_payload(bytes, natives).map_err(|refusal| refusal.0)
 }
+
+/// The bytes that `deserialize_payload` consumes: it has no answer for them, so its steps are taken one by one.
+pub fn consumed(bytes: &[u8], natives: &Module) -> Result<usize, String> {
+    let mut cursor = Cursor { data: bytes, pos: 0 };
+    let pool = read_string_pool(&mut cursor).map_err(|refusal| refusal.0)?;
+    read_chunk(&mut cursor, natives, &pool).map_err(|refusal| refusal.0)?;
+    read_line_index(&mut cursor, &pool).map_err(|refusal| refusal.0)?;
+    Ok(cursor.pos)
+}

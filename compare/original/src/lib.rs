@@ -10,6 +10,7 @@ extern crate self as rl_std_core;
 extern crate self as rl_utils;
 extern crate self as zstd;
 
+pub mod from_tree;
 mod stand_ins;
 pub mod tree;
 

@@ -63,11 +63,14 @@ pub mod native {
     }
 
     fn registered(name: &str) -> (String, VmNative) {
-        let function = VmNativeFn {
+        (name.to_string(), named(name))
+    }
+
+    pub fn named(name: &str) -> VmNative {
+        VmNative::Legacy(Rc::new(VmNativeFn {
             name: name.to_string(),
             func: || (),
-        };
-        (name.to_string(), VmNative::Legacy(Rc::new(function)))
+        }))
     }
 }
 

@@ -3,6 +3,12 @@
 unsafe extern "C" {
     fn rlc2_is_utf8(bytes: *const u8, length: usize) -> u64;
     fn rlc2_uvarint(bytes: *const u8, length: usize, number: *mut u8, room: usize) -> usize;
+    fn rlc2_house_check(
+        payload: *const u8,
+        length: usize,
+        names: *const u8,
+        names_length: usize,
+    ) -> u64;
 }
 
 /// 1 for UTF-8, else 0.
@@ -20,4 +26,9 @@ pub fn uvarint(bytes: &[u8], number: &mut [u8]) -> usize {
             number.len(),
         )
     }
+}
+
+/// 0 where the payload is what the writer would write, else the refusal.
+pub fn house_check(payload: &[u8], names: &[u8]) -> u64 {
+    unsafe { rlc2_house_check(payload.as_ptr(), payload.len(), names.as_ptr(), names.len()) }
 }

@@ -1,14 +1,20 @@
 //! Measures the port beside the Rust.
 
 use compare::arguments::{arguments, refuse};
-use compare::measure::leaves;
+use compare::measure::{check, leaves, read, write};
 
-const USAGE: &str = "measure leaves";
+const USAGE: &str = "measure leaves|read|write|check";
 
 fn main() {
     let arguments = arguments(USAGE);
-    match &arguments.words[..] {
-        [word] if word == "leaves" => leaves(arguments.seed),
+    let [word] = &arguments.words[..] else {
+        refuse(USAGE);
+    };
+    match word.as_str() {
+        "leaves" => leaves(arguments.seed),
+        "read" => read(arguments.seed),
+        "write" => write(arguments.seed),
+        "check" => check(arguments.seed),
         _ => refuse(USAGE),
     }
 }

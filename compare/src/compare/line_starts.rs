@@ -1,6 +1,6 @@
 //! The line starts of a text.
 
-use crate::document::{self, START_LIMIT, TEXT_LIMIT, answered};
+use crate::document::{self, BYTE_LIMIT, START_LIMIT, answered};
 use crate::inputs::lines;
 use crate::random::Random;
 use crate::tally::{Tally, hex};
@@ -50,14 +50,14 @@ pub fn tables(seed: u64) -> Tally {
 pub fn limits() -> Tally {
     let mut tally = Tally::new("rlc2_line_starts, limits by document 01");
     let mut random = Random::new(0);
-    let feeds = vec![b'\n'; TEXT_LIMIT + 1];
-    for length in [START_LIMIT - 2, START_LIMIT - 1, START_LIMIT, TEXT_LIMIT] {
+    let feeds = vec![b'\n'; BYTE_LIMIT + 1];
+    for length in [START_LIMIT - 2, START_LIMIT - 1, START_LIMIT, BYTE_LIMIT] {
         for room in [START_LIMIT - 1, START_LIMIT, START_LIMIT + 9] {
             compare(&mut tally, &mut random, &feeds[..length], room);
         }
     }
-    let one_line = vec![b'a'; TEXT_LIMIT + 1];
-    for length in [TEXT_LIMIT - 1, TEXT_LIMIT, TEXT_LIMIT + 1] {
+    let one_line = vec![b'a'; BYTE_LIMIT + 1];
+    for length in [BYTE_LIMIT - 1, BYTE_LIMIT, BYTE_LIMIT + 1] {
         for room in [0, 1, 2] {
             compare(&mut tally, &mut random, &one_line[..length], room);
         }

@@ -1,7 +1,12 @@
 //! Inputs for comparing, measuring and recording; random ones come from a seeded generator.
 
 pub mod lines;
+pub mod loads;
+pub mod loans;
 pub mod numbers;
+pub mod payloads;
+pub mod programs;
+pub mod tables;
 pub mod texts;
 pub mod utf8;
 pub mod varints;

@@ -1,7 +1,7 @@
 //! Byte strings to be tested for UTF-8.
 
 use super::{damage, every_string, texts};
-use crate::document::TEXT_LIMIT;
+use crate::document::BYTE_LIMIT;
 use crate::random::Random;
 
 const RANDOM_INPUTS: usize = 700_000;
@@ -112,7 +112,7 @@ pub fn likely(random: &mut Random) -> Vec<u8> {
 
 /// Longer than a payload may be: the test has no limit of its own.
 fn long(each: &mut impl FnMut(&[u8])) {
-    let mut bytes = "ab中é".repeat(TEXT_LIMIT / 7 + 1).into_bytes();
+    let mut bytes = "ab中é".repeat(BYTE_LIMIT / 7 + 1).into_bytes();
     each(&bytes);
     bytes.pop();
     each(&bytes);

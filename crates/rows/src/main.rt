@@ -24,7 +24,14 @@ fn list_payload(bytes: &[u8], out: &mut [u8; 65536]) -> usize
     let mut spans = [0u64; 2048];
     let mut starts = [0u32; 512];
     let mut pool = [0u64; 512];
-    let answer = deserialize::deserialize_payload(bytes, b"", &mut rows, &mut spans, &mut starts, &mut pool);
+    let answer = deserialize::deserialize_payload(
+        bytes,
+        b"",
+        &mut rows,
+        &mut spans,
+        &mut starts,
+        &mut pool,
+    );
     listing::put_listing(answer, &rows, out)
 }
 

@@ -40,7 +40,7 @@ returns c =
     let e : digits ≡ decimal (s .args .n) = d .ensures .1 .1 ∙ fewest-decimal (d .result) (s .args .n) (d .ensures .1 .0) in
     let k = few (s .args .n) (s .fits .n) (d .ensures .1 .0) in
     let p = puts-column (s .args .at) (spaces .result) (s .args .width) (s .args .n) (d .result) digits e (sym (d .ensures .0 .1)) (spaces .ensures)
-        (c .before .before .before .before .before .before .before .put-spaces .ensures) (c .before .before .copy-part .ensures) in
+    (c .before .before .before .before .before .before .before .put-spaces .ensures) (c .before .before .copy-part .ensures) in
     (p, omega (arith, spaces .ensures, s .pre))
 
 pub put-column-spec : {M : Type 1} → statement M

@@ -33,7 +33,7 @@ returns c =
     let e = c .before .before .before .before .before .before .before .before .before .answer .given .1 in
     let h = rw e at (c .before .before .before .before .before .before .before .before .before .before .before .before .before .pre) in
     whole (rw e (puts-then (c .before .before .before .before .before .before .put-rows .ensures .0) (c .before .before .put-answer .ensures .0)))
-        (omega (arith, h .1, c .before .before .before .before .before .before .put-rows .ensures .1, c .before .before .before .before .before .before .put-rows .kept .0, c .before .before .put-answer .ensures .1, c .before .before .put-answer .kept .0))
+    (omega (arith, h .1, c .before .before .before .before .before .before .put-rows .ensures .1, c .before .before .before .before .before .before .put-rows .kept .0, c .before .before .put-answer .ensures .1, c .before .before .put-answer .kept .0))
 
 returns-2 : tie.Need-returns-2
 unfolding listing listedRows lastLine rowLines

@@ -15,8 +15,22 @@ put-line-end-requires c κs =
     let x = y .before .before .before .before .before in
     let t = x .before .before .before .before .before in
     let n = t .before .before .before .before .before in
-    omega (arith, w .put-column6 .ensures .1, z .put-column5 .ensures .1, y .put-column4 .ensures .1, x .put-column3 .ensures .1, t .put-column2 .ensures .1, n .put-column .ensures .1,
-        w .put-column6 .kept .0, z .put-column5 .kept .0, y .put-column4 .kept .0, x .put-column3 .kept .0, t .put-column2 .kept .0, n .put-column .kept .0, n .before .before .before .before .pre)
+    omega (
+      arith,
+      w .put-column6 .ensures .1,
+      z .put-column5 .ensures .1,
+      y .put-column4 .ensures .1,
+      x .put-column3 .ensures .1,
+      t .put-column2 .ensures .1,
+      n .put-column .ensures .1,
+      w .put-column6 .kept .0,
+      z .put-column5 .kept .0,
+      y .put-column4 .kept .0,
+      x .put-column3 .kept .0,
+      t .put-column2 .kept .0,
+      n .put-column .kept .0,
+      n .before .before .before .before .pre,
+    )
 
 returns : tie.Need-returns
 unfolding rowLine
@@ -29,9 +43,19 @@ returns c =
     let t = x .before .before .before .before .before in
     let n = t .before .before .before .before .before in
     let p = puts-then (n .put-column .ensures .0) (puts-then (t .put-column2 .ensures .0) (puts-then (x .put-column3 .ensures .0) (puts-then (y .put-column4 .ensures .0)
-        (puts-then (z .put-column5 .ensures .0) (puts-then (w .put-column6 .ensures .0) (l .put-line-end .ensures)))))) in
-    (p, omega (arith, l .put-line-end .ensures .end-is, w .put-column6 .ensures .1, z .put-column5 .ensures .1, y .put-column4 .ensures .1, x .put-column3 .ensures .1,
-        t .put-column2 .ensures .1, n .put-column .ensures .1))
+    (puts-then (z .put-column5 .ensures .0) (puts-then (w .put-column6 .ensures .0) (l .put-line-end .ensures)))))) in (
+      p,
+      omega (
+        arith,
+        l .put-line-end .ensures .end-is,
+        w .put-column6 .ensures .1,
+        z .put-column5 .ensures .1,
+        y .put-column4 .ensures .1,
+        x .put-column3 .ensures .1,
+        t .put-column2 .ensures .1,
+        n .put-column .ensures .1,
+      ),
+    )
 
 pub put-row-spec : {M : Type 1} → statement M
 put-row-spec =

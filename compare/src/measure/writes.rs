@@ -1,0 +1,130 @@
+//! Writing the loads. The pool table holds what the round before left there: it is not cleared before a call.
+
+use super::in_turn;
+use super::loads::{Load, growing, growing_of_few, strings_load};
+use crate::document::Program;
+use port::host_tables;
+use std::collections::HashMap;
+
+/// With distinct strings the pool's search counts, with few distinct ones it does not.
+pub fn write(seed: u64) {
+    println!(
+        "{:<40} {:>9} {:>9} {:>9} {:>8} {:>8} {:>10} {:>11} {:>11}",
+        "",
+        "ours, ms",
+        "Rust, ms",
+        "ours/Rust",
+        "ns/byte",
+        "scan, ms",
+        "gather, ms",
+        "10^6 passed",
+        "10^9/second"
+    );
+    measure(&strings_load(seed));
+    for load in growing(seed) {
+        measure(&load);
+    }
+    let per_byte: Vec<f64> = growing_of_few(seed).map(|load| measure(&load)).collect();
+    let growth = per_byte[per_byte.len() - 1] / per_byte[0];
+    println!("time per byte with few distinct strings, largest over smallest script: {growth:.2}");
+}
+
+/// Prints the times of a load; the nanoseconds for a byte.
+fn measure(load: &Load) -> f64 {
+    let mut out = vec![0; load.payload.len()];
+    let program = load.program();
+    let mut whole = Call::new(load, &program);
+    let (our_time, rust_time) = in_turn(
+        || whole.run(&mut out, 0),
+        || original::serialize_payload(&load.chunk, load.lines.as_ref()),
+    );
+    assert!(out == load.payload);
+    let (scan, gathering) = steps(load, &mut out);
+    let passed = entries_passed(&program) as f64;
+    let per_byte = our_time * 1e9 / load.payload.len() as f64;
+    println!(
+        "{:<40} {:>9.2} {:>9.2} {:>9.2} {:>8.2} {:>8.2} {:>10.2} {:>11.1} {:>11.2}",
+        load.name,
+        our_time * 1e3,
+        rust_time * 1e3,
+        our_time / rust_time,
+        per_byte,
+        scan * 1e3,
+        gathering * 1e3,
+        passed / 1e6,
+        passed / gathering / 1e9
+    );
+    per_byte
+}
+
+/// The times of the scan of the rows and of gathering, told apart by refusals: a last span above 2^63 - 1 ends a write after the
+/// scan with 17, and a last record with a name that is not gathered ends it after the gathering with 18.
+fn steps(load: &Load, out: &mut [u8]) -> (f64, f64) {
+    let mut spans = load.tables.spans.clone();
+    *spans.last_mut().expect("a span") = 1 << 63;
+    let unsound = Program {
+        spans: &spans,
+        ..load.program()
+    };
+    let mut rows = load.tables.rows.clone();
+    rows[3] += 1;
+    rows.extend([16, load.tables.pool[0], 2, 0, 0]);
+    let mut unnamed = load.program();
+    unnamed.counts.rows += 1;
+    unnamed.rows = &rows;
+    let mut scan = Call::new(load, &unsound);
+    let mut gathering = Call::new(load, &unnamed);
+    let mut untouched = out.to_vec();
+    let (gathered, scanned) = in_turn(|| gathering.run(out, 18), || scan.run(&mut untouched, 17));
+    (scanned, gathered - scanned)
+}
+
+/// A write with its pool table.
+struct Call<'a> {
+    program: &'a Program<'a>,
+    pool: Vec<u64>,
+}
+
+impl<'a> Call<'a> {
+    fn new(load: &Load, program: &'a Program<'a>) -> Self {
+        let pool = load.tables.pool.clone();
+        Self { program, pool }
+    }
+
+    fn run(&mut self, out: &mut [u8], expected: u64) {
+        let program = self.program;
+        let number = host_tables::serialize(
+            program.store,
+            &program.counts.words(),
+            program.rows,
+            program.spans,
+            program.starts,
+            &mut self.pool,
+            out,
+            &mut [0; 2],
+        );
+        assert_eq!(number, expected);
+    }
+}
+
+/// The entries that searches from the first one pass: up to the string found, or all where it is new.
+fn entries_passed(program: &Program) -> usize {
+    let mut indices = HashMap::new();
+    let mut passed = 0;
+    let mut search = |string| {
+        let next = indices.len();
+        let index = *indices.entry(string).or_insert(next);
+        passed += if index == next { next } else { index + 1 };
+    };
+    for row in 0..program.counts.rows as usize {
+        if program.row(row)[0] != 16 {
+            for part in program.strings(row) {
+                search(program.bytes(part));
+            }
+        }
+    }
+    if program.counts.line_flag == 1 {
+        search(program.bytes(program.counts.name));
+    }
+    passed
+}
