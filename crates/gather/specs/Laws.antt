@@ -1,3 +1,5 @@
 pub mod Interning
+pub mod Lengths
+pub mod Placing
 pub mod Gather
 pub mod Named

@@ -11,6 +11,8 @@ ghost use Rattle.pool_index.specs.Strings.{bytesAt, poolStrings, distinct};
 ghost use Rattle.gather.specs.Gather.{partIn, itemParts, rowParts, rowsParts, nameParts, pooledParts, stringCapacity, gatherAnswer, entryCount, entryWords};
 ghost use Rattle.gather.specs.Named.{rowNamed, rowsNamed};
 ghost use Rattle.gather.specs.Interning.{partsOf, Inside, Holding, Interned};
+ghost use Rattle.gather.specs.Lengths.{OtherLengths};
+ghost use Rattle.gather.specs.Placing.{fitsIn, usedAfter, tableAfter, placedOf, gatheredOf};
 
 const ROW_WIDTH: usize = 5;
 
@@ -24,6 +26,17 @@ const STRING: u64 = 6;
 pub enum Gathered {
     Pooled(usize),
     Full,
+}
+
+// The pool under construction: how many entries of its table are used.
+pub struct PoolState {
+    pub used: usize,
+}
+
+// How many entries are used once a string is interned, and whether it has one: it has none where the table is full.
+struct Placed {
+    used: usize,
+    fits: bool,
 }
 
 // Whether entry k has the bytes of a part. Most entries differ in length or in the first byte; parts at one place need no look at their bytes.
@@ -49,39 +62,153 @@ fn entry_is(store: &[u8], entries: &[u64], k: usize, o: usize, n: usize) -> bool
     slices::equal_parts(store, o, store, at, n)
 }
 
-// Whether an entry has the bytes of a part: a search from the first one.
+fn length_at(entries: &[u64], k: usize) -> u64
+    requires { ⌜ k < length (now entries) / 2 ⌝ }
+    ensures { λ r. ⌜ r ≡ getD (now (entries .entry)) (2 * k + 1) 0 ⌝ }
+{
+    entries[2 * k + 1]
+}
+
+// How many of the four entries from k on stand before the first of a length.
+fn before_of_four(entries: &[u64], k: usize, n: u64) -> usize
+    requires { ⌜ k + 4 ≤ length (now entries) / 2 ⌝ }
+    ensures { λ r. ⌜ (r ≤ 4) × OtherLengths (now (entries .entry)) n k (k + r) ⌝ }
+{
+    if length_at(entries, k) == n {
+        return 0;
+    }
+    if length_at(entries, k + 1) == n {
+        return 1;
+    }
+    if length_at(entries, k + 2) == n {
+        return 2;
+    }
+    if length_at(entries, k + 3) == n {
+        return 3;
+    }
+    4
+}
+
+// The same of eight.
+fn before_of_eight(entries: &[u64], k: usize, n: u64) -> usize
+    requires { ⌜ k + 8 ≤ length (now entries) / 2 ⌝ }
+    ensures { λ r. ⌜ (r ≤ 8) × OtherLengths (now (entries .entry)) n k (k + r) ⌝ }
+{
+    let before = before_of_four(entries, k, n);
+    if before < 4 {
+        return before;
+    }
+    4 + before_of_four(entries, k + 4, n)
+}
+
+// An entry before which all from one on have other lengths. By eights: a search spends its time here.
+fn skip_by_eights(entries: &[u64], from: usize, n: u64) -> usize
+    requires { ⌜ from ≤ length (now entries) / 2 ⌝ }
+    ensures { λ r. ⌜ (from ≤ r) × (r ≤ length (now (entries .entry)) / 2) ⌝ }
+    ensures { λ r. ⌜ OtherLengths (now (entries .entry)) n from r ⌝ }
+{
+    let count = entries.len() / 2;
+    let mut k = from;
+    while 8 <= count - k {
+        let before = before_of_eight(entries, k, n);
+        k += before;
+        if before < 8 {
+            return k;
+        }
+    }
+    k
+}
+
+// The first entry of a length from one on, or the count.
+fn next_of_length(entries: &[u64], from: usize, n: u64) -> usize
+    requires { ⌜ from ≤ length (now entries) / 2 ⌝ }
+    ensures { λ r. ⌜ (from ≤ r) × (r ≤ length (now (entries .entry)) / 2) ⌝ }
+    ensures { λ r. ⌜ OtherLengths (now (entries .entry)) n from r ⌝ }
+{
+    let count = entries.len() / 2;
+    let mut k = skip_by_eights(entries, from, n);
+    while k < count {
+        if length_at(entries, k) == n {
+            return k;
+        }
+        k += 1;
+    }
+    k
+}
+
+// Whether an entry has the bytes of a part: a search from the first one, among those of its length.
 fn is_pooled(store: &[u8], entries: &[u64], o: usize, n: usize) -> bool
     requires { ⌜ o + n ≤ length (now store) ⌝ }
     requires { ⌜ Inside (now store) (now entries) ⌝ }
     ensures { λ r. ⌜ r ≡ hasBytes (bytesAt (now (store .entry)) o n) (partsOf (now (store .entry)) (now (entries .entry))) ⌝ }
 {
     let count = entries.len() / 2;
-    let mut k: usize = 0;
+    let length = n as u64;
+    let mut k = next_of_length(entries, 0, length);
     while k < count {
         if entry_is(store, entries, k, o, n) {
             return true;
         }
-        k += 1;
+        k = next_of_length(entries, k + 1, length);
     }
     false
 }
 
 // One more string: a new entry, unless one has its bytes.
-fn intern(store: &[u8], pool: &mut [u64], count: usize, o: u64, n: u64) -> Gathered
-    requires { ⌜ Holding (now store) (now pool) count ⌝ }
-    ensures { λ r. ⌜ Interned (now (store .entry)) (now (pool .entry)) (now (pool .exit)) count r (partIn (now (store .entry)) o n ∷ []) ⌝ }
+fn intern_at(used: usize, table: &mut [u64], store: &[u8], o: u64, n: u64) -> Placed
+    requires { ⌜ Holding (now store) (now table) used ⌝ }
+    ensures { λ r. ⌜ (r ≡ placedOf (now (store .entry)) (now (table .entry)) used o n)
+        × (now (table .exit) ≡ tableAfter (now (store .entry)) (now (table .entry)) used o n) ⌝ }
 {
     let offset = pool_index::cut(o, store.len());
     let length = pool_index::cut(n, store.len() - offset);
     let first: usize = 0;
-    let end = 2 * count;
-    if is_pooled(store, &pool[first..end], offset, length) {
-        return Gathered::Pooled(count);
+    let end = 2 * used;
+    if is_pooled(store, &table[first..end], offset, length) {
+        return Placed { used, fits: true };
     }
-    if count < payload::string_capacity(pool.len()) {
-        pool[end] = offset as u64;
-        pool[end + 1] = length as u64;
-        return Gathered::Pooled(count + 1);
+    if used < payload::string_capacity(table.len()) {
+        table[end] = offset as u64;
+        table[end + 1] = length as u64;
+        return Placed {
+            used: used + 1,
+            fits: true,
+        };
+    }
+    Placed { used, fits: false }
+}
+
+// The pool is lent, and advanced by one more string. Whether the string has an entry.
+fn intern(pool: &mut PoolState, table: &mut [u64], store: &[u8], o: u64, n: u64) -> bool
+    requires { ⌜ Holding (now store) (now table) (now pool .used) ⌝ }
+    ensures { λ r. ⌜ (r ≡ fitsIn (now (store .entry)) (now (table .entry)) (now (pool .entry) .used) o n)
+        × (now (pool .exit) ≡ record { used = usedAfter (now (store .entry)) (now (table .entry)) (now (pool .entry) .used) o n })
+        × (now (table .exit) ≡ tableAfter (now (store .entry)) (now (table .entry)) (now (pool .entry) .used) o n) ⌝ }
+{
+    let placed = intern_at(pool.used, table, store, o, n);
+    pool.used = placed.used;
+    placed.fits
+}
+
+// The same on a number: the pool is a local, lent to `intern`.
+fn intern_from(used: usize, table: &mut [u64], store: &[u8], o: u64, n: u64) -> Placed
+    requires { ⌜ Holding (now store) (now table) used ⌝ }
+    ensures { λ r. ⌜ (r ≡ placedOf (now (store .entry)) (now (table .entry)) used o n)
+        × (now (table .exit) ≡ tableAfter (now (store .entry)) (now (table .entry)) used o n) ⌝ }
+{
+    let mut pool = PoolState { used };
+    let fits = intern(&mut pool, table, store, o, n);
+    Placed {
+        used: pool.used,
+        fits,
+    }
+}
+
+fn to_gathered(placed: Placed) -> Gathered
+    ensures { λ r. ⌜ r ≡ gatheredOf placed ⌝ }
+{
+    if placed.fits {
+        return Gathered::Pooled(placed.used);
     }
     Gathered::Full
 }
@@ -100,7 +227,7 @@ fn gather_item(
     ensures { λ r. ⌜ Interned (now (store .entry)) (now (pool .entry)) (now (pool .exit)) count r (itemParts (now (store .entry)) form (getD (now (rows .entry)) at 0) (getD (now (rows .entry)) (at + 1) 0)) ⌝ }
 {
     if form == STRING {
-        return intern(store, pool, count, rows[at], rows[at + 1]);
+        return to_gathered(intern_from(count, pool, store, rows[at], rows[at + 1]));
     }
     Gathered::Pooled(count)
 }
@@ -171,7 +298,7 @@ fn gather_name(
     if flag == 0 {
         return Gathered::Pooled(count);
     }
-    intern(store, pool, count, name_o as u64, name_n as u64)
+    to_gathered(intern_from(count, pool, store, name_o as u64, name_n as u64))
 }
 
 // Interns every gathered string of a program: the first part of each distinct string goes to the pool table at its place in pool order.

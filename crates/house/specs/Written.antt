@@ -8,7 +8,7 @@ use Rattle.slices.specs.Same.{same}
 use Rattle.payload.specs.Choice.{_and_}
 use Rattle.payload.specs.House.{allNamed}
 use Rattle.payload.specs.Reader.{Part, Result, ok, refused}
-use Rattle.payload.specs.Sound.{Tables, scriptOf}
+use Rattle.payload.specs.Sound.{Tables}
 use Rattle.payload.specs.Tables.{Leaves, capacitiesOf, partsWords, reading}
 use Rattle.payload.specs.Trees.{Script, forgetScript}
 use Rattle.payload.specs.Write.{internedParts}

@@ -1,5 +1,5 @@
 -- Demand 3 on the contracts: the house check answers 0 exactly for the writings of sound programs that the tables hold, and then a read into tables of the same lengths gives that program.
-use mathlib.Core.Bool.{Bool, false, true}
+use mathlib.Core.Bool.{true}
 use mathlib.Core.List.{List}
 use mathlib.Core.Logic.{_↔_}
 use mathlib.Core.Path.{_∙_, _≡_, ap, refl, sym}

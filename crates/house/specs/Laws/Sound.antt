@@ -1,10 +1,9 @@
 -- What the search for record names and the comparison say of the tables of a sound program.
 use mathlib.Core.Bool.{Bool, false, true}
 use mathlib.Core.List.{List, []}
-use mathlib.Core.Path.{_∙_, _≡_, ap, refl, sym}
+use mathlib.Core.Path.{_∙_, _≡_, ap, sym}
 use Prim.Native.Nat.{_/_, _<_, _≤_, ℕ}
 use native.Mathlib.Omega.{arith}
-use lib.Dec.{eqb}
 use lib.ListN.{length}
 use borrow.Author.Tests.{eq-eqb, ne-eqb}
 use Rattle.slices.specs.Same.{same}
@@ -12,7 +11,7 @@ use Rattle.payload.specs.Choice.{_and_}
 use Rattle.payload.specs.House.{allNamed, isOk}
 use Rattle.payload.specs.Laws.House.{ok-true}
 use Rattle.payload.specs.Laws.Named.{named-le}
-use Rattle.payload.specs.Reader.{Part, Result, State, ok, refused}
+use Rattle.payload.specs.Reader.{Part, Result, State, ok}
 use Rattle.payload.specs.Rows.{rowWidth}
 use Rattle.payload.specs.Sound.{Tables, scriptOf}
 use Rattle.payload.specs.Tables.{partsWords}

@@ -3,7 +3,7 @@ use mathlib.Core.Bool.{Bool, false, true}
 use mathlib.Core.List.{List, [], _++_, _∷_}
 use mathlib.Core.Option.{Option, none, some}
 use mathlib.Core.Path.{_∙_, _≡_, ap, ap₂, refl, subst, sym}
-use Prim.Native.Nat.{_*_, _+_, _-_, _/_, _^_, _≤_, ℕ}
+use Prim.Native.Nat.{_*_, _-_, _/_, _^_, _≤_, ℕ}
 use native.Mathlib.Omega.{arith}
 use lib.Dec.{ltb}
 use lib.ListN.{drop, length, length-append, take}
@@ -30,12 +30,11 @@ use Rattle.payload.specs.Reading.{Capacities, Payload, readPayload}
 use Rattle.payload.specs.Rows.{itemsSpans, partWords, rowTable, rowWidth, spanTable}
 use Rattle.payload.specs.Sound.{Tables, isNil, scriptOf}
 use Rattle.payload.specs.Spans.{Span, smallSpans}
-use Rattle.payload.specs.Tables.{Leaves, capacitiesOf, lineFlag, lineName, lineStarts, partsWords, readAnswer, reading, sizeLimit, spanWords, tablesOf, usedPool, usedRows, usedSpans, usedStarts}
-use Rattle.payload.specs.Trees.{Item, LineIndex, Script, Trees, code, forgetItem, forgetItems, forgetLine, forgetNode, forgetScript, forgetTrees, nativeName, nil, node, number, recordName, single, size, spanCount, spanItem, spanItems, startCount, string}
+use Rattle.payload.specs.Tables.{capacitiesOf, lineFlag, lineName, lineStarts, partsWords, readAnswer, reading, sizeLimit, spanWords, tablesOf, usedPool, usedRows, usedSpans, usedStarts}
+use Rattle.payload.specs.Trees.{Item, LineIndex, Script, Trees, code, forgetItem, forgetItems, forgetLine, forgetNode, forgetScript, forgetTrees, nativeName, nil, node, number, recordName, single, spanCount, spanItem, spanItems, startCount, string}
 use Rattle.payload.specs.Write.{internedParts}
 use Rattle.payload.specs.Writing.{gathered, poolOf}
 use Rattle.payload.specs.declared.Counts.{Counts}
-use Rattle.payload.specs.declared.Read.{Read}
 use Rattle.payload.specs.declared.Read.the-variants as read
 use Rattle.pool_index.specs.Laws.Distinct.{interned-distinct}
 use Rattle.pool_index.specs.Strings.{bytesAt, distinct, poolStrings}

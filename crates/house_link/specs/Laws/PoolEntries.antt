@@ -10,11 +10,11 @@ use lib.ListN.{getD, length}
 use borrow.Author.Tests.{ltb-true}
 use Rattle.payload.specs.Laws.Keeps.{invert, not-ok}
 use Rattle.payload.specs.Numbers.{cutTo, readNumber, varint}
-use Rattle.payload.specs.Reader.{Part, Reader, State, _>>=_, _>>_, byte, here, must, newRow, ok, pure, start}
+use Rattle.payload.specs.Reader.{Part, Reader, State, _>>=_, _>>_, byte, here, must, newRow, ok, pure}
 use Rattle.payload.specs.Reading.{Capacities, Context, Payload, nodeKey, readChunk, readFlagged, readItem, readItems, readKeys, readKids, readLineIndex, readMany, readOne, readPairs, readPayload, readPool, readPoolIndex, readShape, readStarts, readUntagged, readValue, testKey}
 use Rattle.payload.specs.Shapes.{ItemKind, Kids, Shape, keys, noValue, oneValue, pairs, shape, values, withChunk, withFields, withKids, withTemplate}
 use Rattle.payload.specs.Spans.{readCode}
-use Rattle.payload.specs.Trees.{Item, LineIndex, Node, Script, Trees, code, cons, nativeName, nil, node, nodeOf, number, recordName, single, string}
+use Rattle.payload.specs.Trees.{Item, LineIndex, Node, Trees, code, cons, nativeName, nil, nodeOf, number, recordName, single, string}
 use Rattle.payload.specs.Writing.{gathered, itemStrings, itemsStrings, lineStrings, treesStrings}
 
 ---- entries

@@ -7,9 +7,9 @@ use Prim.Native.Nat.{_*_, _+_, _/_, _<_, _≤_, suc, zero, ℕ}
 use native.Mathlib.Numerals.{add-one}
 use native.Mathlib.Omega.{arith}
 use lib.Dec.{eqb, ltb}
-use lib.ListN.{List·getD-append, drop, getD, length, length-append, take}
+use lib.ListN.{getD, length, take}
 use lib.Seq.{getD-at, getD-take, length-take-le, take-length, take-suc}
-use borrow.Author.Tests.{eq-eqb, eqb-true, le-ltb, lt-ltb, ltb-false, ltb-true, ne-eqb}
+use borrow.Author.Tests.{eq-eqb, le-ltb, lt-ltb, ltb-false, ltb-true, ne-eqb}
 use Rattle.slices.specs.Laws.Same.{same-eq, same-refl}
 use Rattle.slices.specs.Same.{same}
 use Rattle.varint.specs.Laws.RoundTrip.{reads-within}
@@ -19,12 +19,11 @@ use Rattle.varint.specs.declared.Varint.the-variants.{Number, Refused}
 use Rattle.payload.specs.Choice.{_or_, if_then_else_}
 use Rattle.payload.specs.Laws.Keeps.{invert, not-ok}
 use Rattle.payload.specs.Numbers.{afterVarint, varint}
-use Rattle.payload.specs.Reader.{Part, Result, State, _>>=_, _>>_, advanced, andThen, body, here, must, ok, pure, start}
-use Rattle.payload.specs.Reading.{Capacities, Context, Payload, readChunk, readLineIndex, readPayload, readPool, readString, readStrings}
+use Rattle.payload.specs.Reader.{Part, State, _>>=_, _>>_, advanced, body, here, must, ok, pure}
+use Rattle.payload.specs.Reading.{Capacities, Payload, readChunk, readLineIndex, readPayload, readPool, readString, readStrings}
 use Rattle.payload.specs.Rows.{partWords}
 use Rattle.payload.specs.Tables.{partsWords}
 use Rattle.payload.specs.Write.{hasBytes, internedParts}
-use Rattle.pool_index.specs.Laws.Distinct.{index-at}
 use Rattle.pool_index.specs.Strings.{distinct}
 use Rattle.gather_link.specs.Laws.Parts.{bytesOf}
 use Rattle.pool_check.specs.Order as words

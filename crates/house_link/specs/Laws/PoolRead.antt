@@ -1,6 +1,6 @@
 -- Where the writing of a program that was read is the payload, the pool that was read is the one that gathering gives.
 use mathlib.Core.Bool.{Bool, false, true}
-use mathlib.Core.List.{List, [], _++_, _∷_, append-assoc, map}
+use mathlib.Core.List.{List, [], _++_, _∷_}
 use mathlib.Core.Path.{_∙_, _≡_, ap, refl, sym}
 use Prim.Native.Nat.{_<_, _^_, zero, suc, ℕ}
 use native.Mathlib.Omega.{arith}
@@ -14,8 +14,8 @@ use Rattle.payload.specs.Laws.Keeps.{invert}
 use Rattle.payload.specs.Laws.ReadBack.{pool-back}
 use Rattle.payload.specs.Laws.Rules.{Small}
 use Rattle.payload.specs.Reader.{Part, State, _>>=_, ok, pure, start}
-use Rattle.payload.specs.Reading.{Capacities, Context, Payload, readChunk, readLineIndex, readPayload, readPool}
-use Rattle.payload.specs.Trees.{LineIndex, Node, Script, forgetScript, single}
+use Rattle.payload.specs.Reading.{Capacities, Payload, readChunk, readLineIndex, readPayload, readPool}
+use Rattle.payload.specs.Trees.{Script, forgetScript, single}
 use Rattle.payload.specs.Write.{hasBytes, internedParts}
 use Rattle.payload.specs.Writing.{concat, gathered, poolOf, writeLineIndex, writeTrees, writing}
 use Rattle.pool_index.specs.Laws.Distinct.{index-at, interned-distinct}
