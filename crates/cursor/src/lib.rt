@@ -54,8 +54,8 @@ pub fn read_uvarint(payload: &[u8], at: usize) -> Varint
     uvarint(cursor_at(payload, at))
 }
 
-pub fn read_body(payload: &[u8], at: usize, n: usize) -> Body
-    ensures { λ r. ⌜ r ≡ bodyOf (now (payload .entry)) at n ⌝ }
+pub fn read_body(payload: &[u8], at: usize, size: usize) -> Body
+    ensures { λ r. ⌜ r ≡ bodyOf (now (payload .entry)) at size ⌝ }
 {
-    take(cursor_at(payload, at), n)
+    take(cursor_at(payload, at), size)
 }
