@@ -1,11 +1,13 @@
 -- A rule of a table, proved at all of its entries by one test that antt computes, one entry after the other.
 use mathlib.Core.Bool.{Bool, true, false, _&&_}
 use mathlib.Core.List.{List, [], _∷_}
-use mathlib.Core.Path.{_∙_, subst, sym}
-use Prim.Native.Nat.{ℕ, zero, suc, _+_, _<_}
+use mathlib.Core.Path.{_≡_, _∙_, subst, sym}
+use Prim.Native.Nat.{ℕ, zero, suc, _+_, _<_, min}
 use native.Mathlib.Nat.{add-zero, zero-add, add-suc, suc-add, le-of-suc-le-suc, not-suc-le-zero}
-use lib.Dec.{T}
+use native.Mathlib.Omega.{arith}
+use lib.Dec.{T, eqb, eqb→eq}
 use lib.ListN.{length, getD}
+use Rattle.row_layout.specs.Digits.{digits, entries}
 
 both-left : (a b : Bool) → T (a && b) → T a
 both-left true b t = tt
@@ -29,3 +31,8 @@ from f (x ∷ xs) i t (suc k) h =
 
 pub at : (f : ℕ → ℕ → Bool) (xs : List ℕ) → T (every f 0 xs) → (k : ℕ) → k < length xs → T (f k (getD xs k 0))
 at f xs t k h = subst (λ (m : ℕ). T (f m (getD xs k 0))) (zero-add k) (from f xs 0 t k h)
+
+-- the digit of a tag, where f has at each of the 35 entries what the table has
+pub agrees : (f : ℕ → ℕ) (r low middle high t : ℕ) → r ≡ getD (entries low middle high) (min t 34) 0 → T (every (λ k x. eqb x (f k)) 0 (entries low middle high)) → f (min t 34) ≡ f t → r ≡ f t
+unfolding entries digits
+agrees f r low middle high t e right same = e ∙ eqb→eq _ _ (at (λ k x. eqb x (f k)) (entries low middle high) right (min t 34) (omega arith)) ∙ same

@@ -1,427 +1,87 @@
-// What the words of a row mean, by its tag, in tables. Entry 34 stands for every tag that no row has.
+// What the words of a row mean, by its tag, in tables of hexadecimal digits, one digit for a tag.
+// A table is three words: the tags 0 to 15, 16 to 31, and 32 to 34. In each word the last digit is that of the lowest tag.
+// The digit of tag 34 stands for every tag that no row has.
 ghost use mathlib.Core.Path.{_≡_};
 ghost use Prim.Native.Nat.{min};
+ghost use lib.ListN.{getD};
+ghost use Rattle.row_layout.specs.Digits.{entries};
 ghost use Rattle.row_layout.specs.Layout.{firstForm, secondForm, secondWord, underForm, countWord, firstTest, secondTest, underRules, usedWords};
 
-fn entry(tag: u64) -> usize
-    ensures { λ r. ⌜ r ≡ min tag 34 ⌝ }
+// The digit of a tag in a table.
+fn digit(tag: u64, low: u64, middle: u64, high: u64) -> u64
+    ensures { λ r. ⌜ r ≡ getD (entries low middle high) (min tag 34) 0 ⌝ }
 {
-    if tag <= 34 {
-        return tag as usize;
+    if tag < 16 {
+        return (low >> (4 * tag)) % 16;
     }
-    34
+    if tag < 32 {
+        return (middle >> (4 * (tag - 16))) % 16;
+    }
+    if tag < 34 {
+        return (high >> (4 * (tag - 32))) % 16;
+    }
+    (high >> 8) % 16
 }
-
-const FIRST_FORMS: [u64; 35] = [
-    0,
-    2,
-    4,
-    3,
-    3,
-    1,
-    6,
-    6,
-    6,
-    0,
-    0,
-    0,
-    0,
-    0,
-    0,
-    0,
-    6,
-    6,
-    1,
-    1,
-    2,
-    1,
-    1,
-    2,
-    2,
-    5,
-    1,
-    0,
-    0,
-    0,
-    0,
-    0,
-    7,
-    6,
-    0,
-];
 
 // The form of the first item.
 pub fn first_form(tag: u64) -> u64
     ensures { λ r. ⌜ r ≡ firstForm tag ⌝ }
 {
-    let t = entry(tag);
-    FIRST_FORMS[t]
+    digit(tag, 0x0000_0006_6613_3420, 0x0000_0152_2112_1166, 0x067)
 }
-
-const SECOND_FORMS: [u64; 35] = [
-    0,
-    0,
-    0,
-    0,
-    0,
-    0,
-    0,
-    1,
-    0,
-    0,
-    0,
-    0,
-    0,
-    0,
-    0,
-    0,
-    0,
-    6,
-    0,
-    0,
-    0,
-    0,
-    0,
-    0,
-    0,
-    0,
-    1,
-    0,
-    0,
-    0,
-    0,
-    0,
-    0,
-    0,
-    0,
-];
 
 // The form of the second item.
 pub fn second_form(tag: u64) -> u64
     ensures { λ r. ⌜ r ≡ secondForm tag ⌝ }
 {
-    let t = entry(tag);
-    SECOND_FORMS[t]
+    digit(tag, 0x0000_0000_1000_0000, 0x0000_0100_0000_0060, 0x000)
 }
-
-const SECOND_WORDS: [u64; 35] = [
-    1,
-    2,
-    2,
-    2,
-    2,
-    2,
-    3,
-    3,
-    3,
-    1,
-    1,
-    1,
-    1,
-    1,
-    1,
-    1,
-    3,
-    3,
-    2,
-    2,
-    2,
-    2,
-    2,
-    2,
-    2,
-    2,
-    2,
-    1,
-    1,
-    1,
-    1,
-    1,
-    3,
-    3,
-    1,
-];
 
 // The word where the second item begins.
 pub fn second_word(tag: u64) -> u64
     ensures { λ r. ⌜ r ≡ secondWord tag ⌝ }
 {
-    let t = entry(tag);
-    SECOND_WORDS[t]
+    digit(tag, 0x1111_1113_3322_2221, 0x1111_1222_2222_2233, 0x133)
 }
-
-const UNDER_FORMS: [u64; 35] = [
-    0,
-    0,
-    0,
-    0,
-    0,
-    0,
-    0,
-    1,
-    0,
-    1,
-    1,
-    1,
-    2,
-    2,
-    2,
-    3,
-    2,
-    0,
-    4,
-    0,
-    0,
-    0,
-    0,
-    0,
-    0,
-    0,
-    0,
-    0,
-    0,
-    0,
-    0,
-    0,
-    2,
-    1,
-    0,
-];
 
 // What is under the row.
 pub fn under_form(tag: u64) -> u64
     ensures { λ r. ⌜ r ≡ underForm tag ⌝ }
 {
-    let t = entry(tag);
-    UNDER_FORMS[t]
+    digit(tag, 0x3222_1110_1000_0000, 0x0000_0000_0000_0402, 0x012)
 }
-
-const COUNT_WORDS: [u64; 35] = [
-    1,
-    2,
-    2,
-    2,
-    2,
-    2,
-    3,
-    4,
-    3,
-    1,
-    1,
-    1,
-    1,
-    1,
-    1,
-    1,
-    3,
-    5,
-    2,
-    2,
-    2,
-    2,
-    2,
-    2,
-    2,
-    2,
-    3,
-    1,
-    1,
-    1,
-    1,
-    1,
-    3,
-    3,
-    1,
-];
 
 // The word of the count.
 pub fn count_word(tag: u64) -> u64
     ensures { λ r. ⌜ r ≡ countWord tag ⌝ }
 {
-    let t = entry(tag);
-    COUNT_WORDS[t]
+    digit(tag, 0x1111_1113_4322_2221, 0x1111_1322_2222_2253, 0x133)
 }
-
-const FIRST_TESTS: [u64; 35] = [
-    0,
-    1,
-    1,
-    5,
-    4,
-    7,
-    11,
-    11,
-    11,
-    0,
-    0,
-    0,
-    0,
-    0,
-    0,
-    0,
-    11,
-    11,
-    3,
-    1,
-    8,
-    2,
-    3,
-    9,
-    10,
-    2,
-    6,
-    0,
-    0,
-    0,
-    0,
-    0,
-    12,
-    11,
-    0,
-];
 
 // The test of the first item.
 pub fn first_test(tag: u64) -> u64
     ensures { λ r. ⌜ r ≡ firstTest tag ⌝ }
 {
-    let t = entry(tag);
-    FIRST_TESTS[t]
+    digit(tag, 0x0000_000b_bb74_5110, 0x0000_062a_9328_13bb, 0x0bc)
 }
-
-const SECOND_TESTS: [u64; 35] = [
-    0,
-    0,
-    0,
-    0,
-    0,
-    0,
-    0,
-    1,
-    0,
-    0,
-    0,
-    0,
-    0,
-    0,
-    0,
-    0,
-    0,
-    11,
-    0,
-    0,
-    0,
-    0,
-    0,
-    0,
-    0,
-    0,
-    1,
-    0,
-    0,
-    0,
-    0,
-    0,
-    0,
-    0,
-    0,
-];
 
 // The test of the second item.
 pub fn second_test(tag: u64) -> u64
     ensures { λ r. ⌜ r ≡ secondTest tag ⌝ }
 {
-    let t = entry(tag);
-    SECOND_TESTS[t]
+    digit(tag, 0x0000_0000_1000_0000, 0x0000_0100_0000_00b0, 0x000)
 }
-
-const UNDER_RULES: [u64; 35] = [
-    0,
-    0,
-    0,
-    0,
-    0,
-    0,
-    0,
-    5,
-    0,
-    1,
-    1,
-    1,
-    2,
-    2,
-    3,
-    4,
-    6,
-    0,
-    7,
-    0,
-    0,
-    0,
-    0,
-    0,
-    0,
-    0,
-    0,
-    0,
-    0,
-    0,
-    0,
-    0,
-    2,
-    1,
-    0,
-];
 
 // The rules of the rows under the row.
 pub fn under_rules(tag: u64) -> u64
     ensures { λ r. ⌜ r ≡ underRules tag ⌝ }
 {
-    let t = entry(tag);
-    UNDER_RULES[t]
+    digit(tag, 0x4322_1110_5000_0000, 0x0000_0000_0000_0706, 0x012)
 }
-
-const USED_WORDS: [u64; 35] = [
-    1,
-    2,
-    2,
-    2,
-    2,
-    2,
-    3,
-    4,
-    3,
-    1,
-    1,
-    1,
-    2,
-    2,
-    2,
-    2,
-    4,
-    5,
-    3,
-    2,
-    2,
-    2,
-    2,
-    2,
-    2,
-    2,
-    3,
-    1,
-    1,
-    1,
-    1,
-    1,
-    4,
-    3,
-    1,
-];
 
 // How many of the row's words are used.
 pub fn used_words(tag: u64) -> u64
     ensures { λ r. ⌜ r ≡ usedWords tag ⌝ }
 {
-    let t = entry(tag);
-    USED_WORDS[t]
+    digit(tag, 0x2222_1113_4322_2221, 0x1111_1322_2222_2354, 0x134)
 }

@@ -1,42 +1,22 @@
--- `row_layout::first_test` meets its contract: the table agrees with the shapes at each of its entries, which antt computes. Assumes nothing.
-use mathlib.Core.Bool.{Bool}
-use mathlib.Core.List.{List, [], _∷_}
-use mathlib.Core.Path.{_≡_, ap, _∙_}
-use Prim.Native.Nat.{ℕ, _<_}
-use native.Mathlib.Omega.{arith}
-use lib.Dec.{eqb, eqb→eq}
-use lib.ListN.{getD}
+-- `row_layout::first_test` meets its contract: the digits agree with the shapes at each of the 35 entries, which antt computes. Assumes nothing.
+use mathlib.Core.Path.{ap}
 use borrow.Author.Needs.{needs}
 use Rattle.payload.specs.Choice.{if_then_else_}
 use Rattle.payload.specs.Shapes.{Shape, shape, shapes, kindsOf}
+use Rattle.row_layout.specs.Digits.{digits, entries}
 use Rattle.row_layout.specs.Laws.Layout.{shape-min}
-use Rattle.row_layout.specs.Layout.{firstTest, numberTest, itemTest, firstTestOf, secondTestOf, kidsRules, shapeRules}
-use Rattle.row_layout.proofs.Table.{at}
+use Rattle.row_layout.specs.Layout.{firstTest, numberTest, itemTest, firstTestOf}
+use Rattle.row_layout.proofs.Table.{agrees}
 use Rattle.row_layout.proofs.first_test.Statement.{statement}
 use Rattle.row_layout.proofs.first_test.Tie as tie
 
-table : List ℕ
-table = 0 ∷ 1 ∷ 1 ∷ 5 ∷ 4 ∷ 7 ∷ 11 ∷ 11 ∷ 11 ∷ 0 ∷ 0 ∷ 0 ∷ 0 ∷ 0 ∷ 0 ∷ 0 ∷ 11 ∷ 11 ∷ 3 ∷ 1 ∷ 8 ∷ 2 ∷ 3 ∷ 9 ∷ 10 ∷ 2 ∷ 6 ∷ 0 ∷ 0 ∷ 0 ∷ 0 ∷ 0 ∷ 12 ∷ 11 ∷ 0 ∷ []
-
-right : ℕ → ℕ → Bool
-right k x = eqb x (firstTest k)
-
-entry-requires : tie.Need-entry-requires
-entry-requires c κs = search needs
-
-mul-result : tie.Need-mul-result
-mul-result c = omega (arith, c .entry .ensures)
-
-array-read-result : tie.Need-array-read-result
-array-read-result c = omega (arith, c .entry .ensures)
-
-agrees : (k : ℕ) → k < 35 → getD table k 0 ≡ firstTest k
-unfolding table right firstTest shape shapes kindsOf numberTest itemTest firstTestOf secondTestOf kidsRules shapeRules if_then_else_
-agrees k h = eqb→eq (getD table k 0) (firstTest k) (at right table tt k h)
+digit-requires : tie.Need-digit-requires
+digit-requires c κs = search needs
 
 returns : tie.Need-returns
-unfolding table firstTest
-returns c = agrees (c .entry .result) (omega (arith, c .entry .ensures)) ∙ ap firstTest (c .entry .ensures) ∙ ap (λ (s : Shape). firstTestOf (kindsOf s)) (shape-min (c .before .args .tag))
+returns c =
+    agrees firstTest _ _ _ _ _ (c .digit .ensures) (unfold entries digits firstTest shape shapes kindsOf numberTest itemTest firstTestOf if_then_else_ in tt)
+    (unfold firstTest in (ap (λ (s : Shape). firstTestOf (kindsOf s)) (shape-min (c .before .args .tag))))
 
 pub first-test-spec : {M : Type 1} → statement M
-first-test-spec = tie.close (tie.spec entry-requires mul-result array-read-result returns)
+first-test-spec = tie.close (tie.spec digit-requires returns)

@@ -1,43 +1,22 @@
--- `row_layout::under_form` meets its contract: the table agrees with the shapes at each of its entries, which antt computes. Assumes nothing.
-use mathlib.Core.Bool.{Bool}
-use mathlib.Core.List.{List, [], _∷_}
-use mathlib.Core.Path.{_≡_, ap, _∙_}
-use Prim.Native.Nat.{ℕ, _<_}
-use native.Mathlib.Omega.{arith}
-use lib.Dec.{eqb, eqb→eq}
-use lib.ListN.{getD}
+-- `row_layout::under_form` meets its contract: the digits agree with the shapes at each of the 35 entries, which antt computes. Assumes nothing.
+use mathlib.Core.Path.{ap}
 use borrow.Author.Needs.{needs}
 use Rattle.payload.specs.Choice.{if_then_else_}
-use Rattle.payload.specs.Rows.{kindWidth, kindsWidth}
-use Rattle.payload.specs.Shapes.{Shape, shape, shapes, kindsOf}
+use Rattle.payload.specs.Shapes.{Shape, shape, shapes}
+use Rattle.row_layout.specs.Digits.{digits, entries}
 use Rattle.row_layout.specs.Laws.Layout.{shape-min}
-use Rattle.row_layout.specs.Layout.{underForm, numberForm, itemForm, firstOf, secondOf, afterFirst, kidsForm, shapeForm}
-use Rattle.row_layout.proofs.Table.{at}
+use Rattle.row_layout.specs.Layout.{underForm, kidsForm, shapeForm}
+use Rattle.row_layout.proofs.Table.{agrees}
 use Rattle.row_layout.proofs.under_form.Statement.{statement}
 use Rattle.row_layout.proofs.under_form.Tie as tie
 
-table : List ℕ
-table = 0 ∷ 0 ∷ 0 ∷ 0 ∷ 0 ∷ 0 ∷ 0 ∷ 1 ∷ 0 ∷ 1 ∷ 1 ∷ 1 ∷ 2 ∷ 2 ∷ 2 ∷ 3 ∷ 2 ∷ 0 ∷ 4 ∷ 0 ∷ 0 ∷ 0 ∷ 0 ∷ 0 ∷ 0 ∷ 0 ∷ 0 ∷ 0 ∷ 0 ∷ 0 ∷ 0 ∷ 0 ∷ 2 ∷ 1 ∷ 0 ∷ []
-
-right : ℕ → ℕ → Bool
-right k x = eqb x (underForm k)
-
-entry-requires : tie.Need-entry-requires
-entry-requires c κs = search needs
-
-mul-result : tie.Need-mul-result
-mul-result c = omega (arith, c .entry .ensures)
-
-array-read-result : tie.Need-array-read-result
-array-read-result c = omega (arith, c .entry .ensures)
-
-agrees : (k : ℕ) → k < 35 → getD table k 0 ≡ underForm k
-unfolding table right underForm shape shapes kindsOf numberForm itemForm firstOf secondOf afterFirst kidsForm shapeForm kindWidth kindsWidth if_then_else_
-agrees k h = eqb→eq (getD table k 0) (underForm k) (at right table tt k h)
+digit-requires : tie.Need-digit-requires
+digit-requires c κs = search needs
 
 returns : tie.Need-returns
-unfolding table underForm
-returns c = agrees (c .entry .result) (omega (arith, c .entry .ensures)) ∙ ap underForm (c .entry .ensures) ∙ ap (λ (s : Shape). shapeForm s) (shape-min (c .before .args .tag))
+returns c =
+    agrees underForm _ _ _ _ _ (c .digit .ensures) (unfold entries digits underForm shape shapes kidsForm shapeForm if_then_else_ in tt)
+    (unfold underForm in (ap (λ (s : Shape). shapeForm s) (shape-min (c .before .args .tag))))
 
 pub under-form-spec : {M : Type 1} → statement M
-under-form-spec = tie.close (tie.spec entry-requires mul-result array-read-result returns)
+under-form-spec = tie.close (tie.spec digit-requires returns)
