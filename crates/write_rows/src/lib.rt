@@ -14,6 +14,7 @@ ghost use Rattle.payload.specs.Rows.{rowWidth};
 ghost use Rattle.payload.specs.Writing.{tagByte, writeStarts};
 ghost use Rattle.emit.specs.Emit.{further, Ready, Emitted};
 ghost use Rattle.pool_index.specs.Strings.{bytesAt, poolStrings, distinct, writePool};
+ghost use Rattle.row_layout.specs.Layout.{underForm};
 ghost use Rattle.write_code.specs.Runs.{Positions};
 ghost use Rattle.write_rows.specs.Walk.{held, rowCount, rowWord, itemBytes, itemsBytes, headBytes, spanAfter, rowsUnder, walkRow, walk};
 ghost use Rattle.write_rows.specs.Payload.{lineBytes, payloadBytes, walkDepth, WrittenOut};
@@ -141,6 +142,20 @@ fn write_number(form: u64, comparing: bool, payload: &[u8], out: &mut [u8], at: 
     at
 }
 
+// An item that is no code, by its form.
+fn write_plain(form: u64, comparing: bool, payload: &[u8], out: &mut [u8], st: Step, store: &[u8], pool: &[u64], a: u64, b: u64) -> Step
+    requires { ⌜ Ready comparing (now out) (st .at) ⌝ }
+    requires { ⌜ distinct (poolStrings (now store) (now pool)) ≡ true ⌝ }
+    requires { ⌜ form < 7 ⌝ }
+    ensures { λ r. ⌜ Emitted comparing (now (payload .entry)) (now (out .entry)) (now (out .exit)) (st .at) (r .at) (itemBytes (now (store .entry)) (poolStrings (now (store .entry)) (now (pool .entry))) [] form a b) ⌝ }
+{
+    if form == 6 {
+        return write_index(comparing, payload, out, st, store, pool, a, b);
+    }
+    let next = write_number(form, comparing, payload, out, st.at, a);
+    Step { at: next, expected: st.expected }
+}
+
 // An item by its form.
 fn write_item(form: u64, comparing: bool, payload: &[u8], out: &mut [u8], st: Step, store: &[u8], pool: &[u64], spans: &[u64], a: u64, b: u64) -> Step
     requires { ⌜ Ready comparing (now out) (st .at) ⌝ }
@@ -192,6 +207,27 @@ fn write_head(comparing: bool, payload: &[u8], out: &mut [u8], st: Step, store: 
         return next;
     }
     write_items(comparing, payload, out, next, store, pool, rows, spans, i)
+}
+
+// A row with nothing under it: its tag, and its items, none of which is code.
+fn write_leaf(comparing: bool, payload: &[u8], out: &mut [u8], store: &[u8], pool: &[u64], rows: &[u64], st: Place) -> Place
+    requires { ⌜ Ready comparing (now out) (st .at) ⌝ }
+    requires { ⌜ distinct (poolStrings (now store) (now pool)) ≡ true ⌝ }
+    requires { ⌜ (st .row < rowCount (now rows)) × (underForm (rowWord (now rows) (st .row) 0) ≡ 0) ⌝ }
+    ensures { λ r. ⌜ Emitted comparing (now (payload .entry)) (now (out .entry)) (now (out .exit)) (st .at) (r .at) (headBytes (held (now (store .entry)) (now (pool .entry)) (now (rows .entry)) []) (st .row) []) ⌝ }
+    ensures { λ r. ⌜ (r .row ≡ st .row + 1) × (r .span ≡ st .span) ⌝ }
+{
+    let i = st.row;
+    let tag = word_at(rows, i, 0);
+    let next = Step { at: write_tag(comparing, payload, out, st.at, tag), expected: st.expected };
+    let a = write_plain(row_layout::first_form(tag), comparing, payload, out, next, store, pool, word_at(rows, i, 1), word_at(rows, i, 2));
+    let form = row_layout::second_form(tag);
+    if form == 0 {
+        return Place { row: i + 1, span: st.span, at: a.at, expected: a.expected };
+    }
+    let w = row_layout::second_word(tag);
+    let b = write_plain(form, comparing, payload, out, a, store, pool, word_at(rows, i, w), word_at(rows, i, w + 1));
+    Place { row: i + 1, span: st.span, at: b.at, expected: b.expected }
 }
 
 // The span after those of a row.

@@ -1,4 +1,4 @@
--- Every tag above 33 has the shape of a tag that no row has; what a test finds of all shapes holds of the shape of every tag; the second item begins at word 3 at most.
+-- Every tag above 33 has the shape of a tag that no row has; what a test finds of all shapes holds of the shape of every tag; the second item begins at word 3 at most; which items are never code.
 use mathlib.Core.Bool.{Bool, true, false}
 use mathlib.Core.List.{List, [], _∷_}
 use mathlib.Core.Path.{_≡_, refl, sym, ap, _∙_}
@@ -11,8 +11,8 @@ use borrow.Author.Tests.{leb-true, leb-false, ltb-true, ltb-false, eqb-true, ne-
 use Rattle.payload.specs.Choice.{if_then_else_, _and_}
 use Rattle.payload.specs.Laws.Pool.{and-left, and-right}
 use Rattle.payload.specs.Rows.{kindWidth}
-use Rattle.payload.specs.Shapes.{ItemKind, Shape, noValue, oneValue, values, withKids, shape, shapes}
-use Rattle.row_layout.specs.Layout.{afterFirst, secondWord}
+use Rattle.payload.specs.Shapes.{ItemKind, Shape, noValue, oneValue, values, withKids, shape, shapes, kindsOf}
+use Rattle.row_layout.specs.Layout.{numberForm, itemForm, firstOf, secondOf, afterFirst, kidsForm, shapeForm, firstForm, secondForm, secondWord, underForm}
 
 pub shape-high : (t : ℕ) → 33 < t → shape t ≡ withKids [] noValue
 unfolding shape if_then_else_
@@ -70,3 +70,20 @@ after-first-low (k ∷ ks) = let w = kind-width-low k in omega arith
 pub second-word-low : (t : ℕ) → secondWord t ≤ 3
 unfolding secondWord
 second-word-low t = after-first-low _
+
+---- where code can stand: only as the first item of a row with rows under it
+
+noCode : ℕ → Shape → Bool
+noCode t sh = (if eqb (shapeForm sh) 0 then ltb (firstOf (kindsOf sh)) 7 else true) and ltb (secondOf (kindsOf sh)) 7
+
+no-code : (t : ℕ) → noCode t (shape t) ≡ true
+unfolding noCode allFrom shapes kindsOf numberForm itemForm firstOf secondOf kidsForm shapeForm if_then_else_ _and_
+no-code t = shape-all noCode refl refl refl (λ k h. refl) t
+
+pub leaf-form-low : (t : ℕ) → underForm t ≡ 0 → firstForm t < 7
+unfolding noCode underForm firstForm if_then_else_
+leaf-form-low t h = ltb-true (firstOf (kindsOf (shape t))) 7 (rw h at (and-left _ _ (no-code t)))
+
+pub second-form-low : (t : ℕ) → secondForm t < 7
+unfolding noCode secondForm
+second-form-low t = ltb-true (secondOf (kindsOf (shape t))) 7 (and-right _ _ (no-code t))
