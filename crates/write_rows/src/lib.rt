@@ -308,7 +308,11 @@ fn write_rows(depth: usize, comparing: bool, payload: &[u8], out: &mut [u8], sto
         if rows.len() / ROW_WIDTH <= here.row {
             return here;
         }
-        here = write_row(under, comparing, payload, out, store, pool, rows, spans, here);
+        if row_layout::under_form(word_at(rows, here.row, 0)) == 0 {
+            here = write_leaf(comparing, payload, out, store, pool, rows, here);
+        } else {
+            here = write_row(under, comparing, payload, out, store, pool, rows, spans, here);
+        }
         k += 1;
     }
     here

@@ -14,6 +14,7 @@ use Rattle.write_rows.proofs.span_after.Reads as span-after-reads
 use Rattle.write_rows.proofs.word_at.Reads as word-at-reads
 use Rattle.write_rows.proofs.write_head.Reads as write-head-reads
 use Rattle.write_rows.proofs.write_items.Reads as write-items-reads
+use Rattle.write_rows.proofs.write_leaf.Reads as write-leaf-reads
 
 abbrev pub μ-write-row : Measures 6 write-row-kinds.ps ℕ
 μ-write-row κs a = 2 * a .0 + 1
@@ -37,7 +38,7 @@ write-rows-below t =
     and 6 write-rows-kinds.ps (falls 6 write-rows-kinds.ps _<_ μ-write-rows t) write-rows.Pre
 
 abbrev pub write-rows-known : ℕ → write-rows-lts.Claims
-write-rows-known t = (write-row-below t, write-row.Post)
+write-rows-known t = (word-at-reads.Asked, word-at-reads.Learnt, under-form-reads.Asked, under-form-reads.Learnt, write-leaf-reads.Asked, write-leaf-reads.Learnt, write-row-below t, write-row.Post)
 
 abbrev pub write-row-known : ℕ → write-row-lts.Claims
 write-row-known t = (span-after-reads.Asked, span-after-reads.Learnt, write-head-reads.Asked, write-head-reads.Learnt, rows-under-reads.Asked, rows-under-reads.Learnt, word-at-reads.Asked, word-at-reads.Learnt, under-form-reads.Asked, under-form-reads.Learnt, write-rows-below t, write-rows.Post, write-items-reads.Asked, write-items-reads.Learnt)

@@ -1,10 +1,13 @@
 -- `write_rows::write_rows`: what is left to walk from here makes the whole.
-use mathlib.Core.Path.{_≡_}
+use mathlib.Core.Logic.{⊎-elim}
+use mathlib.Core.Path.{_≡_, sym, ap, _∙_}
 use Prim.Native.Nat.{suc, _-_, _/_, ℕ}
 use native.Mathlib.Omega.{arith}
 use lib.ListN.{length}
 use borrow.Author.Needs.{needs}
 use Rattle.emit.specs.Laws.Emit.{emitting-ready}
+use Rattle.row_layout.specs.Layout.{underForm}
+use Rattle.write_rows.specs.Laws.Leaf.{leaf-reached}
 use Rattle.write_rows.specs.Laws.Walk.{Loop, reached-none, loop-start, loop-next, loop-end, loop-past}
 use Rattle.write_rows.specs.Walk.{held, walkNext, walk}
 use Rattle.write_rows.proofs.+write_row+write_rows.Proof.Common.{write-rows-at, write-rows-known}
@@ -49,8 +52,21 @@ write-rows-returns-2 :
 unfolding walk
 write-rows-returns-2 t c = let e : c .before .before .before .before .before .before .before .before .before .before .before .args .depth ≡ suc (c .before .before .before .before .before .before .before .before .before .before .before .args .depth - 1) = omega arith in rw e (loop-past _ _ (c .before .before .before .loop .inv) (c .if2 .taken))
 
+write-rows-word-at-requires : (t : ℕ) → write-rows-lts.Need-word-at-requires (write-rows-known t) (write-rows-at t) write-rows.Post write-rows-Inv-loop write-rows-μ-loop
+write-rows-word-at-requires t c κs = c .if2 .left
+
+write-rows-under-form-requires : (t : ℕ) → write-rows-lts.Need-under-form-requires (write-rows-known t) (write-rows-at t) write-rows.Post write-rows-Inv-loop write-rows-μ-loop
+write-rows-under-form-requires t c κs = search needs
+
+-- the row has nothing under it
+leaf : {a u : ℕ} (w : ℕ) → a ≡ w → u ≡ underForm a → u ≡ 0 → underForm w ≡ 0
+leaf w e f z = ap underForm (sym e) ∙ sym f ∙ z
+
+write-rows-write-leaf-requires : (t : ℕ) → write-rows-lts.Need-write-leaf-requires (write-rows-known t) (write-rows-at t) write-rows.Post write-rows-Inv-loop write-rows-μ-loop
+write-rows-write-leaf-requires t c κs = (emitting-ready (c .before .before .before .before .before .before .before .loop .inv .going), (c .before .before .before .before .before .before .before .before .before .before .before .before .before .before .before .pre .1 .1 .0 .once, (c .before .before .before .before .if2 .left, leaf _ (c .before .before .before .word-at .ensures) (c .before .before .under-form .ensures) (c .before .if3 .taken))))
+
 write-rows-write-row-requires : (t : ℕ) → write-rows-lts.Need-write-row-requires (write-rows-known t) (write-rows-at t) write-rows.Post write-rows-Inv-loop write-rows-μ-loop
-write-rows-write-row-requires t c κs = (omega (arith, c .before .before .before .before .before .before .before .before .before .before .before .before .pre .0), (emitting-ready (c .before .before .before .before .loop .inv .going), (c .before .before .before .before .before .before .before .before .before .before .before .before .pre .1 .1 .0, (c .before .if2 .left, c .before .before .before .before .loop .inv .within))))
+write-rows-write-row-requires t c κs = (omega (arith, c .before .before .before .before .before .before .before .before .before .before .before .before .before .before .before .pre .0), (emitting-ready (c .before .before .before .before .before .before .before .loop .inv .going), (c .before .before .before .before .before .before .before .before .before .before .before .before .before .before .before .pre .1 .1 .0, (c .before .before .before .before .if2 .left, c .before .before .before .before .before .before .before .loop .inv .within))))
 
 write-rows-add-k :
     (t : ℕ) →
@@ -69,7 +85,12 @@ write-rows-loop-less :
 write-rows-loop-less t c = search needs
 
 write-rows-loop-again : (t : ℕ) → write-rows-lts.Need-loop-again (write-rows-known t) (write-rows-at t) write-rows.Post write-rows-Inv-loop write-rows-μ-loop
-write-rows-loop-again t c = loop-next _ _ (c .before .before .before .before .before .before .before .loop .inv) (c .before .before .before .before .before .before .loop-test .taken) (c .before .before .before .before .if2 .left) (c .before .before .write-row .ensures)
+write-rows-loop-again t c =
+    loop-next _ _ (c .before .before .before .before .before .before .loop .inv) (c .before .before .before .before .before .loop-test .taken) (c .before .before .before .if2 .left)
+    (⊎-elim
+    (λ w. rw (w .5, w .6) (leaf-reached _ _ _ _ _ (leaf _ (c .before .before .word-at .ensures) (c .before .under-form .ensures) (w .0 .taken)) (c .before .before .before .before .before .before .loop .inv .within) (w .2 .ensures .0) (w .2 .ensures .1 .0) (w .2 .ensures .1 .1)))
+    (λ w. rw (w .5, w .6) (w .2 .ensures))
+    (c .if3 .came))
 
 write-rows-same-length-2 : (t : ℕ) → write-rows-lts.Need-same-length-2 (write-rows-known t) (write-rows-at t) write-rows.Post write-rows-Inv-loop write-rows-μ-loop
 write-rows-same-length-2 t c = c .before .loop .inv .going .long
@@ -93,6 +114,9 @@ write-rows-meets t = write-rows-lts.spec (write-rows-known t) (write-rows-at t)
     (write-rows-loop-holds t)
     (write-rows-same-length t)
     (write-rows-returns-2 t)
+    (write-rows-word-at-requires t)
+    (write-rows-under-form-requires t)
+    (write-rows-write-leaf-requires t)
     (write-rows-write-row-requires t)
     (write-rows-add-k t)
     (write-rows-loop-less t)
