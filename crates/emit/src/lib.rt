@@ -3,7 +3,7 @@
 // the size limit or differed, and from there on.
 ghost use mathlib.Core.Path.{_≡_};
 ghost use mathlib.Core.Bool.{true};
-ghost use mathlib.Core.List.{[], _∷_};
+ghost use mathlib.Core.List.{[], _∷_, _++_};
 ghost use Prim.Native.Nat.{_+_, _≤_, _<_, min};
 ghost use lib.ListN.{length};
 ghost use Rattle.slices.specs.Put.{put};
@@ -84,6 +84,67 @@ pub fn emit_varint(comparing: bool, payload: &[u8], out: &mut [u8], at: usize, n
         }
     }
     emit_groups(comparing, payload, out, at, n)
+}
+
+// Three bytes. Where they fit they are stored with no test at each.
+fn emit_three_bytes(
+    comparing: bool,
+    payload: &[u8],
+    out: &mut [u8],
+    at: usize,
+    first: u8,
+    second: u8,
+    third: u8,
+) -> usize
+    requires { ⌜ Ready comparing (now out) at ⌝ }
+    ensures { λ r. ⌜ Emitted comparing (now (payload .entry)) (now (out .entry)) (now (out .exit)) at r (first ∷ second ∷ third ∷ []) ⌝ }
+{
+    if !comparing {
+        if at <= out.len() {
+            if 3 <= out.len() - at {
+                out[at] = first;
+                out[at + 1] = second;
+                out[at + 2] = third;
+                return at + 3;
+            }
+        }
+    }
+    let second_at = emit_byte(comparing, payload, out, at, first);
+    let third_at = emit_byte(comparing, payload, out, second_at, second);
+    emit_byte(comparing, payload, out, third_at, third)
+}
+
+// The shortest ULEB128 of three numbers. Most are below 128, of one byte each: those are stored without the tests of each number's width and room.
+pub fn emit_three_varints(
+    comparing: bool,
+    payload: &[u8],
+    out: &mut [u8],
+    at: usize,
+    first: u64,
+    second: u64,
+    third: u64,
+) -> usize
+    requires { ⌜ Ready comparing (now out) at ⌝ }
+    ensures { λ r. ⌜ Emitted comparing (now (payload .entry)) (now (out .entry)) (now (out .exit)) at r ((uleb128 first ++ uleb128 second) ++ uleb128 third) ⌝ }
+{
+    if first < 128 {
+        if second < 128 {
+            if third < 128 {
+                return emit_three_bytes(
+                    comparing,
+                    payload,
+                    out,
+                    at,
+                    first as u8,
+                    second as u8,
+                    third as u8,
+                );
+            }
+        }
+    }
+    let second_at = emit_varint(comparing, payload, out, at, first);
+    let third_at = emit_varint(comparing, payload, out, second_at, second);
+    emit_varint(comparing, payload, out, third_at, third)
 }
 
 // The n lowest bytes of w, the lowest first.
