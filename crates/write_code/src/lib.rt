@@ -1,16 +1,16 @@
 // A chunk's code, and its spans as maximal runs.
 ghost use mathlib.Core.Path.{_≡_};
-ghost use mathlib.Core.List.{_++_};
-ghost use Prim.Native.Nat.{_+_, _*_, _/_, _^_, _<_};
-ghost use lib.ListN.{length, drop};
+ghost use mathlib.Core.Bool.{cond};
+ghost use mathlib.Core.List.{[], _∷_, _++_};
+ghost use Prim.Native.Nat.{_/_, _^_, _≤_, _<_};
+ghost use lib.ListN.{length};
 ghost use lib.IntN.{pos, _-ℤ_};
 ghost use Rattle.varint.specs.Uleb128.{uleb128};
 ghost use Rattle.varint.specs.Signed.{zigzagOf};
-ghost use Rattle.payload.specs.Spans.{writeDelta, runsOf, writeRuns};
+ghost use Rattle.payload.specs.Spans.{sameSpan, writeDelta, runsOf, writeRuns};
 ghost use Rattle.payload.specs.Sound.{spansOf};
 ghost use Rattle.emit.specs.Emit.{Ready, Emitted};
-ghost use Rattle.write_code.specs.Runs.{Positions, continues};
-ghost use Rattle.write_code.specs.Laws.Runs.{RunEnd};
+ghost use Rattle.write_code.specs.Runs.{Positions, span, spanAt, leadingTrues, RunEnd};
 
 // The code length and the code.
 pub fn write_code(comparing: bool, payload: &[u8], out: &mut [u8], code: &[u8]) -> usize
@@ -44,31 +44,19 @@ pub fn write_delta(
     emit::emit_varint(comparing, payload, out, at, zigzag_delta(old, new))
 }
 
-// Whether span k is followed by one that is the same.
-fn goes_on(spans: &[u64], k: usize) -> bool
-    requires { ⌜ k < length (now spans) / 2 ⌝ }
-    ensures { λ r. ⌜ r ≡ continues (spansOf (drop (2 * k) (now (spans .entry)))) ⌝ }
-{
-    if k + 1 < spans.len() / 2 {
-        if spans[2 * k] == spans[2 * k + 2] {
-            if spans[2 * k + 1] == spans[2 * k + 3] {
-                return true;
-            }
-            return false;
-        }
-        return false;
-    }
-    false
-}
-
+// Counts a run for each span that differs from the next, and one for the last span.
 fn count_runs(spans: &[u64]) -> usize
     ensures { λ r. ⌜ r ≡ length (runsOf (spansOf (now (spans .entry)))) ⌝ }
 {
     let count = spans.len() / 2;
-    let mut n: usize = 0;
+    if count == 0 {
+        return 0;
+    }
+    let last = count - 1;
+    let mut n: usize = 1;
     let mut k: usize = 0;
-    while k < count {
-        if !goes_on(spans, k) {
+    while k < last {
+        if (spans[2 * k] != spans[2 * k + 2]) | (spans[2 * k + 1] != spans[2 * k + 3]) {
             n += 1;
         }
         k += 1;
@@ -92,18 +80,62 @@ fn write_run(
     requires { ⌜ (start < 2 ^ 63) × ((end < 2 ^ 63) × ((a < 2 ^ 63) × (b < 2 ^ 63))) ⌝ }
     ensures { λ r. ⌜ Emitted comparing (now (payload .entry)) (now (out .entry)) (now (out .exit)) at r ((writeDelta start a ++ writeDelta end b) ++ uleb128 n) ⌝ }
 {
-    let x = write_delta(comparing, payload, out, at, start, a);
-    let y = write_delta(comparing, payload, out, x, end, b);
-    emit::emit_varint(comparing, payload, out, y, n)
+    emit::emit_three_varints(
+        comparing,
+        payload,
+        out,
+        at,
+        zigzag_delta(start, a),
+        zigzag_delta(end, b),
+        n,
+    )
 }
 
-// The last span of the run that begins with span k.
-fn run_end(spans: &[u64], k: usize) -> usize
+// Whether span k is a, b. Both words are compared, so that there is no branch between them.
+fn is_span(spans: &[u64], k: usize, a: u64, b: u64) -> bool
     requires { ⌜ k < length (now spans) / 2 ⌝ }
-    ensures { λ r. ⌜ RunEnd (now (spans .entry)) k r ⌝ }
+    ensures { λ r. ⌜ r ≡ sameSpan (span a b) (spanAt (now (spans .entry)) k) ⌝ }
 {
-    let mut l = k;
-    while goes_on(spans, l) {
+    (a == spans[2 * k]) & (b == spans[2 * k + 1])
+}
+
+fn one_if(test: bool) -> usize
+    ensures { λ r. ⌜ (r ≡ cond test 1 0) × (r ≤ 1) ⌝ }
+{
+    if test { 1 } else { 0 }
+}
+
+// How many of four tests are true before the first that is false. A sum and no branches: their outcome cannot be foreseen.
+fn leading_trues(p: bool, q: bool, r: bool, s: bool) -> usize
+    ensures { λ n. ⌜ (n ≡ leadingTrues (p ∷ q ∷ r ∷ s ∷ [])) × (n ≤ 4) ⌝ }
+{
+    one_if(p) + one_if(p & q) + one_if((p & q) & r) + one_if(((p & q) & r) & s)
+}
+
+// The span after the run that begins with span k, which is a, b. Most runs are short: the first four followers are all compared, and only
+// a run that has them is walked span by span.
+fn run_end(spans: &[u64], k: usize, a: u64, b: u64) -> usize
+    requires { ⌜ k < length (now spans) / 2 ⌝ }
+    ensures { λ r. ⌜ RunEnd (now (spans .entry)) (span a b) k r ⌝ }
+{
+    let count = spans.len() / 2;
+    let mut l = k + 1;
+    if 5 <= count - k {
+        let n = leading_trues(
+            is_span(spans, k + 1, a, b),
+            is_span(spans, k + 2, a, b),
+            is_span(spans, k + 3, a, b),
+            is_span(spans, k + 4, a, b),
+        );
+        l = k + 1 + n;
+        if n < 4 {
+            return l;
+        }
+    }
+    while l < count {
+        if !is_span(spans, l, a, b) {
+            return l;
+        }
         l += 1;
     }
     l
@@ -121,9 +153,9 @@ pub fn write_runs(comparing: bool, payload: &[u8], out: &mut [u8], spans: &[u64]
     let mut end: u64 = 0;
     let mut k: usize = 0;
     while k < count {
-        let l = run_end(spans, k);
-        let a = spans[2 * l];
-        let b = spans[2 * l + 1];
+        let a = spans[2 * k];
+        let b = spans[2 * k + 1];
+        let l = run_end(spans, k, a, b);
         at = write_run(
             comparing,
             payload,
@@ -133,11 +165,11 @@ pub fn write_runs(comparing: bool, payload: &[u8], out: &mut [u8], spans: &[u64]
             end,
             a,
             b,
-            (l - k + 1) as u64,
+            (l - k) as u64,
         );
         start = a;
         end = b;
-        k = l + 1;
+        k = l;
     }
     at
 }

@@ -1,28 +1,75 @@
--- `write_code::count_runs` meets its contract: a run ends at each span that does not go on.
+-- `write_code::count_runs` meets its contract: a span that differs from the next ends a run, and the last span ends one.
+use mathlib.Core.Bool.{true, false}
 use mathlib.Core.Logic.{⊎-elim}
-use mathlib.Core.Path.{sym, _∙_}
-use Prim.Native.Nat.{_+_, _-_, _*_, _/_}
+use Prim.Native.Nat.{_-_, _*_, _/_}
 use native.Mathlib.Omega.{arith}
 use lib.ListN.{length, drop}
 use borrow.Author.Needs.{needs}
-use borrow.Author.Tests.{not-true, not-false}
 use Rattle.payload.specs.Sound.{spansOf}
 use Rattle.payload.specs.Spans.{runsOf}
-use Rattle.write_code.specs.Laws.Runs.{Counted, count-same, count-last, count-end}
+use Rattle.write_code.specs.Laws.Runs.{Counted, counted-next, counted-end, counted-none}
 use Rattle.write_code.proofs.count_runs.Statement.{statement}
 use Rattle.write_code.proofs.count_runs.Tie as tie
 
 abbrev Inv-loop : tie.InvT-loop
-Inv-loop spans count n₀ k₀ n k = Counted (length spans / 2) k n (length (runsOf (spansOf spans))) (n + length (runsOf (spansOf (drop (2 * k) spans))))
+Inv-loop spans count last n₀ k₀ n k = Counted (length spans / 2 - 1) k n (length (runsOf (spansOf spans))) (length (runsOf (spansOf (drop (2 * k) spans))))
 
 abbrev μ-loop : tie.MeasureT-loop
-μ-loop spans count n₀ k₀ n k = length spans / 2 - k
+μ-loop spans count last n₀ k₀ n k = length spans / 2 - k
+
+returns : tie.Need-returns Inv-loop μ-loop
+returns c = counted-none _ (c .if1 .taken)
+
+sub-last : tie.Need-sub-last Inv-loop μ-loop
+sub-last c = search needs
 
 loop-holds : tie.Need-loop-holds Inv-loop μ-loop
-loop-holds c = record { upto = omega arith; few = omega arith; is = omega arith }
+loop-holds c = search needs
 
-goes-on-requires : tie.Need-goes-on-requires Inv-loop μ-loop
-goes-on-requires c κs = search needs
+mul-if2 : tie.Need-mul-if2 Inv-loop μ-loop
+mul-if2 c = search needs
+
+mul-if2-2 : tie.Need-mul-if2-2 Inv-loop μ-loop
+mul-if2-2 c = search needs
+
+shared-slice-read-if2 : tie.Need-shared-slice-read-if2 Inv-loop μ-loop
+shared-slice-read-if2 c = search needs
+
+mul-if2-3 : tie.Need-mul-if2-3 Inv-loop μ-loop
+mul-if2-3 c = search needs
+
+add-if2 : tie.Need-add-if2 Inv-loop μ-loop
+add-if2 c = search needs
+
+mul-if2-4 : tie.Need-mul-if2-4 Inv-loop μ-loop
+mul-if2-4 c = search needs
+
+shared-slice-read-if2-2 : tie.Need-shared-slice-read-if2-2 Inv-loop μ-loop
+shared-slice-read-if2-2 c = search needs
+
+mul-if2-5 : tie.Need-mul-if2-5 Inv-loop μ-loop
+mul-if2-5 c = search needs
+
+add-if2-2 : tie.Need-add-if2-2 Inv-loop μ-loop
+add-if2-2 c = search needs
+
+mul-if2-6 : tie.Need-mul-if2-6 Inv-loop μ-loop
+mul-if2-6 c = search needs
+
+shared-slice-read-if2-3 : tie.Need-shared-slice-read-if2-3 Inv-loop μ-loop
+shared-slice-read-if2-3 c = search needs
+
+mul-if2-7 : tie.Need-mul-if2-7 Inv-loop μ-loop
+mul-if2-7 c = search needs
+
+add-if2-3 : tie.Need-add-if2-3 Inv-loop μ-loop
+add-if2-3 c = search needs
+
+mul-if2-8 : tie.Need-mul-if2-8 Inv-loop μ-loop
+mul-if2-8 c = search needs
+
+shared-slice-read-if2-4 : tie.Need-shared-slice-read-if2-4 Inv-loop μ-loop
+shared-slice-read-if2-4 c = search needs
 
 add-n : tie.Need-add-n Inv-loop μ-loop
 add-n c = search needs
@@ -34,15 +81,43 @@ loop-less : tie.Need-loop-less Inv-loop μ-loop
 loop-less c = search needs
 
 loop-again : tie.Need-loop-again Inv-loop μ-loop
-loop-again c = let w = c .before .before .before .before .before .args .spans .now in let k = c .before .before .before .loop .k in let n = c .before .before .before .loop .n in ⊎-elim
-    (λ x. record { upto = omega arith; few = omega (arith, c .before .before .before .loop .inv .few, x .1); is = rw (x .1) (c .before .before .before .loop .inv .is ∙ count-last w k n (omega arith) (sym (c .before .goes-on .ensures) ∙ not-true _ (x .0 .taken))) })
-    (λ x. record { upto = omega arith; few = omega (arith, c .before .before .before .loop .inv .few, x .1); is = rw (x .1) (c .before .before .before .loop .inv .is ∙ count-same w k n (omega arith) (sym (c .before .goes-on .ensures) ∙ not-false _ (x .0 .left))) })
-    (c .if1 .came)
+loop-again c =
+    let w = c .before .before .before .before .before .before .before .before .args .spans .now in
+    let l = c .before .before .before .before .before .before .loop in
+    ⊎-elim
+    (λ x. counted-next w (l .k) (l .n) (c .if2 .n) _ true (l .inv) (omega arith) (x .0 .taken) (x .1))
+    (λ x. counted-next w (l .k) (l .n) (c .if2 .n) _ false (l .inv) (omega arith) (x .0 .left) (omega (arith, x .1)))
+    (c .if2 .came)
 
-returns : tie.Need-returns Inv-loop μ-loop
-returns c = sym (c .before .loop .inv .is ∙ count-end (c .before .before .before .args .spans .now) (c .before .loop .k) (c .before .loop .n) (omega arith))
+returns-2 : tie.Need-returns-2 Inv-loop μ-loop
+returns-2 c = counted-end (c .before .before .before .args .spans .now) (c .before .loop .k) (c .before .loop .n) _ (omega arith) (c .before .loop .inv) (omega arith)
 
 pub count-runs-spec : {M : Type 1} → statement M
 count-runs-spec =
     tie.close
-    (tie.spec Inv-loop μ-loop loop-holds goes-on-requires add-n add-k loop-less loop-again returns)
+    (tie.spec
+    Inv-loop
+    μ-loop
+    returns
+    sub-last
+    loop-holds
+    mul-if2
+    mul-if2-2
+    shared-slice-read-if2
+    mul-if2-3
+    add-if2
+    mul-if2-4
+    shared-slice-read-if2-2
+    mul-if2-5
+    add-if2-2
+    mul-if2-6
+    shared-slice-read-if2-3
+    mul-if2-7
+    add-if2-3
+    mul-if2-8
+    shared-slice-read-if2-4
+    add-n
+    add-k
+    loop-less
+    loop-again
+    returns-2)
