@@ -114,7 +114,7 @@ fn emit_three_bytes(
     emit_byte(comparing, payload, out, third_at, third)
 }
 
-// The shortest ULEB128 of three numbers. Most are below 128, of one byte each: those are stored without the tests of each number's width and room.
+// The shortest ULEB128 of three numbers, one after another. Three numbers of one byte each are stored without a test for each.
 pub fn emit_three_varints(
     comparing: bool,
     payload: &[u8],

@@ -99,21 +99,22 @@ fn is_span(spans: &[u64], k: usize, a: u64, b: u64) -> bool
     (a == spans[2 * k]) & (b == spans[2 * k + 1])
 }
 
+// A test as a number to add.
 fn one_if(test: bool) -> usize
     ensures { λ r. ⌜ (r ≡ cond test 1 0) × (r ≤ 1) ⌝ }
 {
     if test { 1 } else { 0 }
 }
 
-// How many of four tests are true before the first that is false. A sum and no branches: their outcome cannot be foreseen.
+// How many of four tests are true before the first that is false. A sum, so that there is no branch on a test.
 fn leading_trues(p: bool, q: bool, r: bool, s: bool) -> usize
     ensures { λ n. ⌜ (n ≡ leadingTrues (p ∷ q ∷ r ∷ s ∷ [])) × (n ≤ 4) ⌝ }
 {
     one_if(p) + one_if(p & q) + one_if((p & q) & r) + one_if(((p & q) & r) & s)
 }
 
-// The span after the run that begins with span k, which is a, b. Most runs are short: the first four followers are all compared, and only
-// a run that has them is walked span by span.
+// The span after the run that begins with span k, which is a, b. The first four followers are compared without a branch, as their outcome cannot be
+// foreseen; only a run that has all four is walked span by span.
 fn run_end(spans: &[u64], k: usize, a: u64, b: u64) -> usize
     requires { ⌜ k < length (now spans) / 2 ⌝ }
     ensures { λ r. ⌜ RunEnd (now (spans .entry)) (span a b) k r ⌝ }

@@ -57,7 +57,12 @@ add-l-3 : tie.Need-add-l-3 Inv-loop μ-loop
 add-l-3 c = search needs
 
 returns : tie.Need-returns Inv-loop μ-loop
-returns c = run-short (c .before .before .before .before .before .before .before .before .args .spans .now) (span (c .before .before .before .before .before .before .before .before .args .a) (c .before .before .before .before .before .before .before .before .args .b)) (c .before .before .before .before .before .before .before .before .args .k) _ (omega arith) (c .before .leading-trues .ensures .0 ∙ trues-four (c .before .before .before .before .before .before .before .before .args .spans .now) (span (c .before .before .before .before .before .before .before .before .args .a) (c .before .before .before .before .before .before .before .before .args .b)) (c .before .before .before .before .before .before .before .before .args .k) (c .before .before .before .before .before .is-span .ensures) (c .before .before .before .before .is-span2 .ensures) (c .before .before .before .is-span3 .ensures) (c .before .before .is-span4 .ensures)) (c .if2 .taken)
+returns c =
+    let w = c .before .before .before .before .before .before .before .before .args .spans .now in
+    let s = span (c .before .before .before .before .before .before .before .before .args .a) (c .before .before .before .before .before .before .before .before .args .b) in
+    let k = c .before .before .before .before .before .before .before .before .args .k in
+    let e = c .before .leading-trues .ensures .0 ∙ trues-four w s k (c .before .before .before .before .before .is-span .ensures) (c .before .before .before .before .is-span2 .ensures) (c .before .before .before .is-span3 .ensures) (c .before .before .is-span4 .ensures) in
+    run-short w s k _ (omega arith) e (c .if2 .taken)
 
 loop-holds : tie.Need-loop-holds Inv-loop μ-loop
 loop-holds c =

@@ -108,7 +108,7 @@ spans-after ws k n = let e : 2 * k + 2 * n ≡ 2 * (k + n) = omega arith in drop
 
 ---- how many runs
 
--- span last is the last; n runs end before span k, or at the table's end
+-- n counts the runs that end before span k, and the one that the last span ends; `here` is how many begin from span k on
 pub record Counted (last k n whole here : ℕ) : Type 0 where
   pub upto : k ≤ last
   pub few : n ≤ k + 1
@@ -138,7 +138,7 @@ count-at ws k b h e = rw (spans-next ws k (omega arith), spans-next ws (k + 1) h
     go true q = count-next _ _ rest false (not-true _ q)
     go false q = count-next _ _ rest true (not-false _ q)
 
--- a test of neighbours leads on
+-- from span k to the next
 pub counted-next : (ws : List ℕ) (k n n′ whole : ℕ) (b : Bool) → Counted (length ws / 2 - 1) k n whole (length (runsOf (spansOf (drop (2 * k) ws)))) → k < length ws / 2 - 1 → differs ws k ≡ b → n′ ≡ n + cond b 1 0
     → Counted (length ws / 2 - 1) (k + 1) n′ whole (length (runsOf (spansOf (drop (2 * (k + 1)) ws))))
 counted-next ws k n n′ whole b t h e q = go b q (count-at ws k b (omega arith) e)
@@ -162,7 +162,7 @@ counted-none ws h = ap (λ (l : List Span). length (runsOf l)) (sym (spans-end w
 
 ---- the end of a run
 
--- spans k to l are of one run, and the run ends as far on as s is repeated from span l on
+-- the run of s that began with span k goes on as far as s is repeated from span l on
 pub record RunTo (ws : List ℕ) (s : Span) (k l : ℕ) : Type 0 where
   pub from : k < l
   pub within : l ≤ length ws / 2
@@ -203,7 +203,7 @@ module _ (ws : List ℕ) (s : Span) (k : ℕ) where
       let e₅ : k + 4 + 1 ≡ k + 5 = omega arith in
       rw (spans-next ws (k + 1) (omega arith), e₂, spans-next ws (k + 2) (omega arith), e₃, spans-next ws (k + 3) (omega arith), e₄, spans-next ws (k + 4) h, e₅)
 
-  -- as many tests of the four are true as of them are s
+  -- the tests that are true before the first false one are the followers that are s
   pub trues-four : {p₁ p₂ p₃ p₄ : Bool} → p₁ ≡ sameSpan s (spanAt ws (k + 1)) → p₂ ≡ sameSpan s (spanAt ws (k + 2)) → p₃ ≡ sameSpan s (spanAt ws (k + 3)) → p₄ ≡ sameSpan s (spanAt ws (k + 4))
       → leadingTrues (p₁ ∷ p₂ ∷ p₃ ∷ p₄ ∷ []) ≡ repeated s four
   unfolding repeated leadingTrues
