@@ -1,7 +1,8 @@
 // Code and its spans, read from a payload against the definition; the spans go into a lent table.
 ghost use mathlib.Core.Bool.{true};
+ghost use mathlib.Core.List.{[], _∷_};
 ghost use mathlib.Core.Path.{_≡_};
-ghost use Prim.Native.Nat.{_+_, _*_, _≤_};
+ghost use Prim.Native.Nat.{_+_, _*_, _≤_, min};
 ghost use lib.ListN.{length, replicate};
 ghost use Rattle.slices.specs.Put.{put};
 ghost use Rattle.payload.specs.Spans.{readPosition};
@@ -105,11 +106,44 @@ fn read_run(bytes: &[u8], start: i64, end: i64, at: usize) -> RunAt
     read_run_long(bytes, start, end, at)
 }
 
+// Stores a span as span number k.
+fn store_span(spans: &mut [u64], k: usize, start: u64, end: u64)
+    requires { ⌜ 2 * (k + 1) ≤ length (now spans) ⌝ }
+    ensures { λ _. ⌜ now (spans .exit) ≡ put (now (spans .entry)) (2 * k) (spanWords (spanOf start end ∷ [])) ⌝ }
+{
+    let i = 2 * k;
+    spans[i] = start;
+    spans[i + 1] = end;
+}
+
+// The smaller of two numbers.
+fn least(a: usize, b: usize) -> usize
+    ensures { λ r. ⌜ r ≡ min a b ⌝ }
+{
+    if a < b { a } else { b }
+}
+
+// Stores a span one to four times. How many spans a run has cannot be foreseen, and a branch on it costs more than the stores: so there are always four,
+// and those past the last span store it again.
+fn fill_up_to_four(spans: &mut [u64], from: usize, n: usize, start: u64, end: u64)
+    requires { ⌜ (1 ≤ n) × (n ≤ 4) × (2 * (from + n) ≤ length (now spans)) ⌝ }
+    ensures { λ _. ⌜ now (spans .exit) ≡ put (now (spans .entry)) (2 * from) (spanWords (replicate n (spanOf start end))) ⌝ }
+{
+    let last = from + n - 1;
+    store_span(spans, from, start, end);
+    store_span(spans, least(from + 1, last), start, end);
+    store_span(spans, least(from + 2, last), start, end);
+    store_span(spans, last, start, end);
+}
+
 // Stores a span n times, from span number `from` on.
 fn fill(spans: &mut [u64], from: usize, n: usize, start: u64, end: u64)
     requires { ⌜ 2 * (from + n) ≤ length (now spans) ⌝ }
     ensures { λ _. ⌜ now (spans .exit) ≡ put (now (spans .entry)) (2 * from) (spanWords (replicate n (spanOf start end))) ⌝ }
 {
+    if (1 <= n) & (n <= 4) {
+        return fill_up_to_four(spans, from, n, start, end);
+    }
     let mut k = 0;
     while k < n {
         let i = 2 * (from + k);
