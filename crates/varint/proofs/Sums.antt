@@ -1,9 +1,9 @@
--- The sum of two 64-bit signed numbers by their signs: two of different signs always have one. Assumes nothing.
+-- The sum of two 64-bit signed numbers: two of 63 bits always have one, and so do two of different signs. Assumes nothing.
 use mathlib.Core.Path.{_≡_, refl, sym, ap, ap₂, _∙_, subst}
 use mathlib.Core.Bool.{Bool, true, false, cond}
 use Prim.Native.Nat.{ℕ, suc, _+_, _^_, _≤_, _<_}
 use native.Mathlib.Omega.{arith}
-use borrow.Author.Tests.{lt-ltb, le-ltb}
+use borrow.Author.Tests.{lt-ltb, le-ltb, ltb-true}
 use lib.Dec.{ltb}
 use lib.IntN.{ℤ, pos, negsuc, subℕ, _+ℤ_}
 use lib.Signed.{mag, ltZ}
@@ -11,7 +11,7 @@ use mir.Syntax.{w64}
 use mir.Val.{SFits, toZ, ofZ}
 use mir.Facts.{toZ-ofZ}
 use Rattle.varint.specs.declared.Position.the-variants.{At, OutOfRange}
-use Rattle.varint.specs.Position.{positionOf}
+use Rattle.varint.specs.Position.{fits63Bits, positionOf}
 use Rattle.varint.proofs.Signs.{no-less, true-false}
 
 pub both-negative : (p d : ℤ) → ltZ p (pos 0) ≡ true → ltZ d (pos 0) ≡ true → mag (p +ℤ d) ≡ suc (mag p + mag d)
@@ -30,6 +30,15 @@ apart a b h l = go (ltb a (suc b)) refl
     go : (t : Bool) → ltb a (suc b) ≡ t → mag (subℕ a (suc b)) < 2 ^ 63
     go true e = rw e (omega arith)
     go false e = rw e (omega arith)
+
+pub two-of-63-bits : (p d : ℤ) → fits63Bits p ≡ true → fits63Bits d ≡ true → mag (p +ℤ d) < 2 ^ 63
+two-of-63-bits p d e f = go p d (ltb-true _ _ e) (ltb-true _ _ f)
+  where
+    go : (p d : ℤ) → mag p < 2 ^ 62 → mag d < 2 ^ 62 → mag (p +ℤ d) < 2 ^ 63
+    go (pos a) (pos b) h l = omega arith
+    go (pos a) (negsuc b) h l = apart a b (omega arith) (omega arith)
+    go (negsuc a) (pos b) h l = apart b a (omega arith) (omega arith)
+    go (negsuc a) (negsuc b) h l = omega arith
 
 pub negative-natural : (p d : ℤ) → SFits w64 p → SFits w64 d → ltZ p (pos 0) ≡ true → ltZ d (pos 0) ≡ false → mag (p +ℤ d) < 2 ^ 63
 negative-natural (pos n) d h l e f = no-less n e

@@ -11,6 +11,10 @@ use Rattle.varint.specs.declared.Position.the-variants.{At, OutOfRange}
 abbrev pub inRange : ℤ → Bool
 inRange z = ltb (mag z) (2 ^ 63)
 
+-- in 63 signed bits
+abbrev pub fits63Bits : ℤ → Bool
+fits63Bits z = ltb (mag z) (2 ^ 62)
+
 -- where a delta leads
 abbrev pub positionOf : ℤ → ℤ → Position
 positionOf position delta = cond (inRange (position +ℤ delta)) (At (position +ℤ delta)) OutOfRange

@@ -6,7 +6,7 @@ ghost use Rattle.slices.specs.Put.{put};
 ghost use Rattle.varint.specs.Uleb128.{uleb128};
 ghost use Rattle.varint.specs.Varint.{varintOf};
 ghost use Rattle.varint.specs.Signed.{zigzagOf, unzigzagOf, wordOf, signedOf};
-ghost use Rattle.varint.specs.Position.{positionOf};
+ghost use Rattle.varint.specs.Position.{fits63Bits, positionOf};
 
 // The length of the shortest ULEB128 of n: its bits at seven to a byte, and one byte for 0.
 pub fn uvarint_width(n: u64) -> usize
@@ -175,10 +175,21 @@ pub enum Position {
     OutOfRange,
 }
 
-// Two numbers of different signs always have a sum; two of one sign, where what they are above 0 or below -1 leaves room.
+// Whether v fits in 63 signed bits.
+fn fits_63_bits(v: i64) -> bool
+    ensures { λ r. ⌜ r ≡ fits63Bits v ⌝ }
+{
+    (-0x4000_0000_0000_0000 <= v) & (v < 0x4000_0000_0000_0000)
+}
+
+// Two numbers of 63 bits always have a sum, and their signs, whose order cannot be foreseen, are not looked at. Of any others, two of different signs always
+// have a sum; two of one sign, where what they are above 0 or below -1 leaves room.
 pub fn add_delta(position: i64, delta: i64) -> Position
     ensures { λ r. ⌜ r ≡ positionOf position delta ⌝ }
 {
+    if fits_63_bits(position) & fits_63_bits(delta) {
+        return Position::At(position + delta);
+    }
     if position < 0 {
         if delta < 0 {
             let a = (!position) as u64;
