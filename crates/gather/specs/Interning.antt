@@ -5,29 +5,33 @@ use Prim.Native.Nat.{ℕ, _+_, _*_, _≤_, _<_}
 use lib.ListN.{length, take}
 use Rattle.payload.specs.Reader.{Part}
 use Rattle.payload.specs.Sound.{partAt}
+use Rattle.payload.specs.Tables.{sizeLimit}
 use Rattle.payload.specs.Write.{internedParts}
+use Rattle.pool_index.specs.Strings.{bytesAt}
 use Rattle.gather.specs.Gather.{stringCapacity}
+use Rattle.gather.specs.Marks.{lengthIn, markOf}
 use Rattle.gather.specs.declared.Gathered.{Gathered}
 use Rattle.gather.specs.declared.Gathered.the-variants as gathered
 
--- the parts of entries, two words for each
+-- the parts of entries, two words for each: offset and mark
 unfoldable pub partsOf : List ℕ → List ℕ → List Part
 partsOf store [] = []
 partsOf store (o ∷ []) = []
-partsOf store (o ∷ n ∷ words) = partAt store o n ∷ partsOf store words
+partsOf store (o ∷ w ∷ words) = partAt store o (lengthIn w) ∷ partsOf store words
 
--- they stand in the store
+-- they stand in the store, and each mark is that of its part's bytes
 unfoldable pub Inside : List ℕ → List ℕ → Type 0
 Inside store [] = Unit {0}
 Inside store (o ∷ []) = Unit {0}
-Inside store (o ∷ n ∷ words) = (o + n ≤ length store) × Inside store words
+Inside store (o ∷ w ∷ words) = (o + lengthIn w ≤ length store) × (w ≡ markOf (bytesAt store o (lengthIn w))) × Inside store words
 
 -- the parts of a table's first entries
 abbrev pub firstParts : List ℕ → List ℕ → ℕ → List Part
 firstParts store pool count = partsOf store (take (2 * count) pool)
 
--- a pool table that has so many entries
+-- a pool table that has so many entries, of a store whose lengths fit in marks
 pub record Holding (store pool : List ℕ) (count : ℕ) : Type 0 where
+  pub short : length store ≤ sizeLimit
   pub fits : count ≤ stringCapacity (length pool)
   pub inside : Inside store (take (2 * count) pool)
 

@@ -1,5 +1,5 @@
+pub mod Marks
 pub mod Interning
-pub mod Lengths
 pub mod Placing
 pub mod Gather
 pub mod Named

@@ -1,6 +1,6 @@
 pub mod Gather
 pub mod Named
+pub mod Marks
 pub mod Interning
-pub mod Lengths
 pub mod Placing
 pub mod Laws

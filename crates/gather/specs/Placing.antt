@@ -1,19 +1,24 @@
 -- One string interned into a pool table that has so many entries: whether it fits, the entries used then, and the table.
 use mathlib.Core.Bool.{Bool, not}
-use mathlib.Core.List.{List}
+use mathlib.Core.List.{List, [], _∷_}
 use Prim.Native.Nat.{ℕ, _+_, _*_}
 use lib.Dec.{ltb}
 use lib.ListN.{length}
 use Rattle.slices.specs.Put.{put}
 use Rattle.payload.specs.Choice.{if_then_else_, _and_, _or_}
-use Rattle.payload.specs.Rows.{partWords}
+use Rattle.payload.specs.Reader.{Part}
 use Rattle.payload.specs.Write.{hasBytes}
 use Rattle.pool_index.specs.Strings.{bytesAt}
 use Rattle.gather.specs.Gather.{partIn, stringCapacity}
 use Rattle.gather.specs.Interning.{firstParts}
+use Rattle.gather.specs.Marks.{markOf}
 use Rattle.gather.specs.declared.Gathered.{Gathered}
 use Rattle.gather.specs.declared.Gathered.the-variants as gathered
 use Rattle.gather.specs.declared.Placed.{Placed}
+
+-- the words of an entry
+unfoldable pub markedWords : Part → List ℕ
+markedWords p = p .offset ∷ markOf (p .bytes) ∷ []
 
 module _ (store table : List ℕ) (used o n : ℕ) where
   -- an entry has its bytes
@@ -30,9 +35,9 @@ module _ (store table : List ℕ) (used o n : ℕ) where
   unfoldable pub usedAfter : ℕ
   usedAfter = if isAdded then used + 1 else used
 
-  -- the new entry is the part cut to the store
+  -- the new entry is the part cut to the store: its offset and its mark
   unfoldable pub tableAfter : List ℕ
-  tableAfter = if isAdded then put table (2 * used) (partWords (partIn store o n)) else table
+  tableAfter = if isAdded then put table (2 * used) (markedWords (partIn store o n)) else table
 
   abbrev pub placedOf : Placed
   placedOf = record { used = usedAfter; fits = fitsIn }

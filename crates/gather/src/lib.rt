@@ -1,17 +1,17 @@
 // Gathering the strings of a program into the pool table, and looking for its record names there.
 ghost use mathlib.Core.Path.{_≡_};
 ghost use mathlib.Core.Bool.{true};
-ghost use mathlib.Core.List.{[], _∷_};
 ghost use Prim.Native.Nat.{_+_, _*_, _/_, _≤_, _<_};
 ghost use lib.ListN.{length, getD, take, drop};
 ghost use Rattle.slices.specs.Same.{same};
 ghost use Rattle.payload.specs.Rows.{rowWidth};
+ghost use Rattle.payload.specs.Tables.{sizeLimit};
 ghost use Rattle.payload.specs.Write.{hasBytes};
 ghost use Rattle.pool_index.specs.Strings.{bytesAt, poolStrings, distinct};
-ghost use Rattle.gather.specs.Gather.{partIn, itemParts, rowParts, rowsParts, nameParts, pooledParts, stringCapacity, gatherAnswer, entryCount, entryWords};
+ghost use Rattle.gather.specs.Gather.{itemParts, rowParts, rowsParts, nameParts, pooledParts, stringCapacity, gatherAnswer, entryCount, entryWords};
 ghost use Rattle.gather.specs.Named.{rowNamed, rowsNamed};
 ghost use Rattle.gather.specs.Interning.{partsOf, Inside, Holding, Interned};
-ghost use Rattle.gather.specs.Lengths.{OtherLengths};
+ghost use Rattle.gather.specs.Marks.{markOf, lengthIn, unmarked, OtherMarks};
 ghost use Rattle.gather.specs.Placing.{fitsIn, usedAfter, tableAfter, placedOf, gatheredOf};
 
 const ROW_WIDTH: usize = 5;
@@ -39,78 +39,97 @@ struct Placed {
     fits: bool,
 }
 
-// Whether entry k has the bytes of a part. Most entries differ in length or in the first byte; parts at one place need no look at their bytes.
-fn entry_is(store: &[u8], entries: &[u64], k: usize, o: usize, n: usize) -> bool
-    requires { ⌜ (o + n ≤ length (now store)) × (k < length (now entries) / 2) ⌝ }
-    requires { ⌜ Inside (now store) (now entries) ⌝ }
-    ensures { λ r. ⌜ r ≡ same (bytesAt (now (store .entry)) o n) (bytesAt (now (store .entry)) (getD (now (entries .entry)) (2 * k) 0) (getD (now (entries .entry)) (2 * k + 1) 0)) ⌝ }
+// Every length is below it: a mark is a length plus a multiple of it.
+const MARK_BASE: u64 = 0x1_0000_0000;
+
+// The length of a part and, above it, the sum of its first and last four bytes. The second word of an entry while strings are gathered: most
+// entries are told from a part by it, without a look at the store, which misses the cache.
+fn mark(store: &[u8], o: usize, n: usize) -> u64
+    requires { ⌜ (o + n ≤ length (now store)) × (length (now store) ≤ sizeLimit) ⌝ }
+    ensures { λ r. ⌜ r ≡ markOf (bytesAt (now (store .entry)) o n) ⌝ }
 {
-    let length = entries[2 * k + 1];
-    if length != n as u64 {
-        return false;
+    if n < 4 {
+        return n as u64;
     }
+    let sum = slices::half(store, o) + slices::half(store, o + n - 4);
+    n as u64 + sum % MARK_BASE * MARK_BASE
+}
+
+// Takes the marks of the first entries away: their lengths are left.
+fn unmark(pool: &mut [u64], count: usize)
+    requires { ⌜ 2 * count ≤ length (now pool) ⌝ }
+    ensures { λ _. ⌜ now (pool .exit) ≡ unmarked count (now (pool .entry)) ⌝ }
+{
+    let mut k: usize = 0;
+    while k < count {
+        pool[2 * k + 1] = pool[2 * k + 1] % MARK_BASE;
+        k += 1;
+    }
+}
+
+// Whether entry k, which has the mark of a part, has its bytes. Parts at one place need no look at their bytes.
+fn entry_is(store: &[u8], entries: &[u64], k: usize, o: usize, n: usize) -> bool
+    requires { ⌜ (o + n ≤ length (now store)) × (length (now store) ≤ sizeLimit) × (k < length (now entries) / 2) ⌝ }
+    requires { ⌜ Inside (now store) (now entries) ⌝ }
+    requires { ⌜ getD (now entries) (2 * k + 1) 0 ≡ markOf (bytesAt (now store) o n) ⌝ }
+    ensures { λ r. ⌜ r ≡ same (bytesAt (now (store .entry)) o n) (bytesAt (now (store .entry)) (getD (now (entries .entry)) (2 * k) 0) (lengthIn (getD (now (entries .entry)) (2 * k + 1) 0))) ⌝ }
+{
     let offset = entries[2 * k];
     if offset == o as u64 {
         return true;
     }
-    let at = offset as usize;
-    if 0 < n {
-        if store[at] != store[o] {
-            return false;
-        }
-    }
-    slices::equal_parts(store, o, store, at, n)
+    slices::equal_parts(store, o, store, offset as usize, n)
 }
 
-fn length_at(entries: &[u64], k: usize) -> u64
+fn mark_at(entries: &[u64], k: usize) -> u64
     requires { ⌜ k < length (now entries) / 2 ⌝ }
     ensures { λ r. ⌜ r ≡ getD (now (entries .entry)) (2 * k + 1) 0 ⌝ }
 {
     entries[2 * k + 1]
 }
 
-// How many of the four entries from k on stand before the first of a length.
-fn before_of_four(entries: &[u64], k: usize, n: u64) -> usize
+// How many of the four entries from k on stand before the first of a mark.
+fn before_of_four(entries: &[u64], k: usize, wanted: u64) -> usize
     requires { ⌜ k + 4 ≤ length (now entries) / 2 ⌝ }
-    ensures { λ r. ⌜ (r ≤ 4) × OtherLengths (now (entries .entry)) n k (k + r) ⌝ }
+    ensures { λ r. ⌜ (r ≤ 4) × OtherMarks (now (entries .entry)) wanted k (k + r) ⌝ }
 {
-    if length_at(entries, k) == n {
+    if mark_at(entries, k) == wanted {
         return 0;
     }
-    if length_at(entries, k + 1) == n {
+    if mark_at(entries, k + 1) == wanted {
         return 1;
     }
-    if length_at(entries, k + 2) == n {
+    if mark_at(entries, k + 2) == wanted {
         return 2;
     }
-    if length_at(entries, k + 3) == n {
+    if mark_at(entries, k + 3) == wanted {
         return 3;
     }
     4
 }
 
 // The same of eight.
-fn before_of_eight(entries: &[u64], k: usize, n: u64) -> usize
+fn before_of_eight(entries: &[u64], k: usize, wanted: u64) -> usize
     requires { ⌜ k + 8 ≤ length (now entries) / 2 ⌝ }
-    ensures { λ r. ⌜ (r ≤ 8) × OtherLengths (now (entries .entry)) n k (k + r) ⌝ }
+    ensures { λ r. ⌜ (r ≤ 8) × OtherMarks (now (entries .entry)) wanted k (k + r) ⌝ }
 {
-    let before = before_of_four(entries, k, n);
+    let before = before_of_four(entries, k, wanted);
     if before < 4 {
         return before;
     }
-    4 + before_of_four(entries, k + 4, n)
+    4 + before_of_four(entries, k + 4, wanted)
 }
 
-// An entry before which all from one on have other lengths. By eights: a search spends its time here.
-fn skip_by_eights(entries: &[u64], from: usize, n: u64) -> usize
+// An entry before which all from one on have other marks. By eights: a search spends its time here.
+fn skip_by_eights(entries: &[u64], from: usize, wanted: u64) -> usize
     requires { ⌜ from ≤ length (now entries) / 2 ⌝ }
     ensures { λ r. ⌜ (from ≤ r) × (r ≤ length (now (entries .entry)) / 2) ⌝ }
-    ensures { λ r. ⌜ OtherLengths (now (entries .entry)) n from r ⌝ }
+    ensures { λ r. ⌜ OtherMarks (now (entries .entry)) wanted from r ⌝ }
 {
     let count = entries.len() / 2;
     let mut k = from;
     while 8 <= count - k {
-        let before = before_of_eight(entries, k, n);
+        let before = before_of_eight(entries, k, wanted);
         k += before;
         if before < 8 {
             return k;
@@ -119,16 +138,17 @@ fn skip_by_eights(entries: &[u64], from: usize, n: u64) -> usize
     k
 }
 
-// The first entry of a length from one on, or the count.
-fn next_of_length(entries: &[u64], from: usize, n: u64) -> usize
+// The first entry of a mark from one on, or the count.
+fn next_of_mark(entries: &[u64], from: usize, wanted: u64) -> usize
     requires { ⌜ from ≤ length (now entries) / 2 ⌝ }
     ensures { λ r. ⌜ (from ≤ r) × (r ≤ length (now (entries .entry)) / 2) ⌝ }
-    ensures { λ r. ⌜ OtherLengths (now (entries .entry)) n from r ⌝ }
+    ensures { λ r. ⌜ OtherMarks (now (entries .entry)) wanted from r ⌝ }
+    ensures { λ r. ⌜ (r < length (now (entries .entry)) / 2 → getD (now (entries .entry)) (2 * r + 1) 0 ≡ wanted) ⌝ }
 {
     let count = entries.len() / 2;
-    let mut k = skip_by_eights(entries, from, n);
+    let mut k = skip_by_eights(entries, from, wanted);
     while k < count {
-        if length_at(entries, k) == n {
+        if mark_at(entries, k) == wanted {
             return k;
         }
         k += 1;
@@ -136,20 +156,20 @@ fn next_of_length(entries: &[u64], from: usize, n: u64) -> usize
     k
 }
 
-// Whether an entry has the bytes of a part: a search from the first one, among those of its length.
+// Whether an entry has the bytes of a part: a search from the first one, among those of its mark.
 fn is_pooled(store: &[u8], entries: &[u64], o: usize, n: usize) -> bool
-    requires { ⌜ o + n ≤ length (now store) ⌝ }
+    requires { ⌜ (o + n ≤ length (now store)) × (length (now store) ≤ sizeLimit) ⌝ }
     requires { ⌜ Inside (now store) (now entries) ⌝ }
     ensures { λ r. ⌜ r ≡ hasBytes (bytesAt (now (store .entry)) o n) (partsOf (now (store .entry)) (now (entries .entry))) ⌝ }
 {
     let count = entries.len() / 2;
-    let length = n as u64;
-    let mut k = next_of_length(entries, 0, length);
+    let wanted = mark(store, o, n);
+    let mut k = next_of_mark(entries, 0, wanted);
     while k < count {
         if entry_is(store, entries, k, o, n) {
             return true;
         }
-        k = next_of_length(entries, k + 1, length);
+        k = next_of_mark(entries, k + 1, wanted);
     }
     false
 }
@@ -169,7 +189,7 @@ fn intern_at(used: usize, table: &mut [u64], store: &[u8], o: u64, n: u64) -> Pl
     }
     if used < payload::string_capacity(table.len()) {
         table[end] = offset as u64;
-        table[end + 1] = length as u64;
+        table[end + 1] = mark(store, offset, length);
         return Placed {
             used: used + 1,
             fits: true,
@@ -264,6 +284,7 @@ fn gather_row(store: &[u8], rows: &[u64], at: usize, pool: &mut [u64], count: us
 
 // The strings of all rows, in row order.
 fn gather_rows(store: &[u8], rows: &[u64], pool: &mut [u64]) -> Gathered
+    requires { ⌜ length (now store) ≤ sizeLimit ⌝ }
     ensures { λ r. ⌜ Interned (now (store .entry)) (now (pool .entry)) (now (pool .exit)) 0 r (rowsParts (now (store .entry)) (length (now (rows .entry)) / rowWidth) (now (rows .entry))) ⌝ }
 {
     let used = rows.len() / ROW_WIDTH;
@@ -310,11 +331,18 @@ pub fn gather_strings(
     name_n: usize,
     pool: &mut [u64],
 ) -> Gathered
+    requires { ⌜ length (now store) ≤ sizeLimit ⌝ }
     ensures { λ r. ⌜ r ≡ gatherAnswer (stringCapacity (length (now (pool .entry)))) (pooledParts (now (store .entry)) (now (rows .entry)) flag «name_o» «name_n») ⌝ }
     ensures { λ r. ⌜ take (2 * entryCount r) (now (pool .exit)) ≡ entryWords r (pooledParts (now (store .entry)) (now (rows .entry)) flag «name_o» «name_n») ⌝ }
 {
     match gather_rows(store, rows, pool) {
-        Gathered::Pooled(count) => gather_name(store, flag, name_o, name_n, pool, count),
+        Gathered::Pooled(count) => match gather_name(store, flag, name_o, name_n, pool, count) {
+            Gathered::Pooled(all) => {
+                unmark(pool, all);
+                Gathered::Pooled(all)
+            }
+            Gathered::Full => Gathered::Full,
+        },
         Gathered::Full => Gathered::Full,
     }
 }

@@ -1,10 +1,10 @@
--- `gather::before_of_eight` meets its contract: the second four follow where all of the first have other lengths.
+-- `gather::before_of_eight` meets its contract: the second four follow where all of the first have other marks.
 use mathlib.Core.Path.{_≡_, subst}
 use Prim.Native.Nat.{ℕ, _+_}
 use native.Mathlib.Omega.{arith}
 use borrow.Author.Needs.{needs}
-use Rattle.gather.specs.Laws.Lengths.{others-then}
-use Rattle.gather.specs.Lengths.{OtherLengths}
+use Rattle.gather.specs.Laws.Marks.{others-then}
+use Rattle.gather.specs.Marks.{OtherMarks}
 use Rattle.gather.proofs.before_of_eight.Statement.{statement}
 use Rattle.gather.proofs.before_of_eight.Tie as tie
 
@@ -29,9 +29,9 @@ returns-2 c =
     let first = c .before .before .before-of-four in
     let second = c .before-of-four2 in
     let all : first .result ≡ 4 = omega (arith, first .ensures .0, c .before .if1 .left) in
-    let four = subst (λ (m : ℕ). OtherLengths (given .entries .now) (given .n) (given .k) (given .k + m)) all (first .ensures .1) in (
+    let four = subst (λ (m : ℕ). OtherMarks (given .entries .now) (given .wanted) (given .k) (given .k + m)) all (first .ensures .1) in (
       omega (arith, second .ensures .0),
-      subst (OtherLengths (given .entries .now) (given .n) (given .k)) (omega arith) (others-then (given .entries .now) (given .n) (given .k) (given .k + 4) (given .k + 4 + second .result) four (second .ensures .1)),
+      subst (OtherMarks (given .entries .now) (given .wanted) (given .k)) (omega arith) (others-then (given .entries .now) (given .wanted) (given .k) (given .k + 4) (given .k + 4 + second .result) four (second .ensures .1)),
     )
 
 pub before-of-eight-spec : {M : Type 1} → statement M

@@ -1,18 +1,18 @@
--- `gather::skip_by_eights` meets its contract: the entries passed have other lengths.
+-- `gather::skip_by_eights` meets its contract: the entries passed have other marks.
 use Prim.Native.Nat.{_+_, _-_, _/_, _≤_}
 use native.Mathlib.Omega.{arith}
 use lib.ListN.{length}
 use borrow.Author.Needs.{needs}
-use Rattle.gather.specs.Laws.Lengths.{others-then}
-use Rattle.gather.specs.Lengths.{OtherLengths}
+use Rattle.gather.specs.Laws.Marks.{others-then}
+use Rattle.gather.specs.Marks.{OtherMarks}
 use Rattle.gather.proofs.skip_by_eights.Statement.{statement}
 use Rattle.gather.proofs.skip_by_eights.Tie as tie
 
 abbrev Inv-loop : tie.InvT-loop
-Inv-loop entries from n count k₀ k = (from ≤ k) × (k ≤ length entries / 2) × OtherLengths entries n from k
+Inv-loop entries from wanted count k₀ k = (from ≤ k) × (k ≤ length entries / 2) × OtherMarks entries wanted from k
 
 abbrev μ-loop : tie.MeasureT-loop
-μ-loop entries from n count k₀ k = length entries / 2 - k
+μ-loop entries from wanted count k₀ k = length entries / 2 - k
 
 loop-holds : tie.Need-loop-holds Inv-loop μ-loop
 loop-holds c = (omega arith, omega arith, λ i a b. absurd (omega arith))
@@ -31,7 +31,7 @@ returns c =
     let given = c .before .before .before .before .before .args in
     let at = c .before .before .before .loop in
     let passed = c .before .before-of-eight in
-    ((omega arith, omega arith), others-then (given .entries .now) (given .n) (given .from) (at .k) (at .k + passed .result) (at .inv .2) (passed .ensures .1))
+    ((omega arith, omega arith), others-then (given .entries .now) (given .wanted) (given .from) (at .k) (at .k + passed .result) (at .inv .2) (passed .ensures .1))
 
 loop-less : tie.Need-loop-less Inv-loop μ-loop
 loop-less c = search needs
@@ -41,7 +41,7 @@ loop-again c =
     let given = c .before .before .before .before .before .args in
     let at = c .before .before .before .loop in
     let passed = c .before .before-of-eight in
-    (omega arith, omega arith, others-then (given .entries .now) (given .n) (given .from) (at .k) (at .k + passed .result) (at .inv .2) (passed .ensures .1))
+    (omega arith, omega arith, others-then (given .entries .now) (given .wanted) (given .from) (at .k) (at .k + passed .result) (at .inv .2) (passed .ensures .1))
 
 returns-2 : tie.Need-returns-2 Inv-loop μ-loop
 returns-2 c = search needs

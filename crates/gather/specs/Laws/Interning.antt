@@ -3,24 +3,25 @@ use mathlib.Core.Bool.{Bool, true, false}
 use mathlib.Core.List.{List, [], _∷_, _++_, append-assoc}
 use mathlib.Core.Path.{_≡_, refl, sym, ap, ap₂, _∙_, subst}
 use Prim.Native.Nat.{ℕ, zero, suc, _+_, _-_, _*_, _/_, _≤_, _<_, min}
-use native.Mathlib.Nat.{add-zero}
 use native.Mathlib.Numerals.{add-one}
 use native.Mathlib.Omega.{arith}
 use lib.ListN.{length, getD, take, drop, set, length-set, length-append, length-drop}
-use lib.Seq.{take-suc-set, length-take-le, getD-take, getD-drop}
+use lib.Seq.{take-suc-set, length-take-le}
 use borrow.Author.Tests.{le-leb, lt-leb}
-use Rattle.slices.specs.Laws.Same.{same-long, same-no, same-refl}
+use Rattle.slices.specs.Laws.Same.{same-refl}
 use Rattle.slices.specs.Same.{same}
 use Rattle.payload.specs.Choice.{if_then_else_}
 use Rattle.payload.specs.Reader.{Part}
 use Rattle.payload.specs.Rows.{partWords}
 use Rattle.payload.specs.Sound.{partAt}
-use Rattle.payload.specs.Tables.{partsWords, capacitiesOf}
+use Rattle.payload.specs.Tables.{partsWords, capacitiesOf, sizeLimit}
 use Rattle.payload.specs.Write.{hasBytes, internedParts}
 use Rattle.pool_index.specs.Laws.Strings.{bytes-cut, two}
 use Rattle.pool_index.specs.Strings.{bytesAt}
 use Rattle.gather.specs.Gather.{partIn, stringCapacity, gatherAnswer, entryCount, entryWords}
 use Rattle.gather.specs.Interning.{partsOf, Inside, firstParts, Holding, Interned}
+use Rattle.gather.specs.Laws.Marks.{length-in-mark, other-mark}
+use Rattle.gather.specs.Marks.{markOf, lengthIn, unmarked, OtherMarks}
 use Rattle.gather.specs.declared.Gathered.{Gathered}
 use Rattle.gather.specs.declared.Gathered.the-variants as gathered
 
@@ -35,7 +36,7 @@ part-cut s o n a m ea em = λ i. record { offset = ea i; bytes = bytes-cut s o n
 
 ---- entries
 
-pub parts-next : (s ws : List ℕ) (k : ℕ) → k < length ws / 2 → partsOf s (drop (2 * k) ws) ≡ partAt s (getD ws (2 * k) 0) (getD ws (2 * k + 1) 0) ∷ partsOf s (drop (2 * (k + 1)) ws)
+pub parts-next : (s ws : List ℕ) (k : ℕ) → k < length ws / 2 → partsOf s (drop (2 * k) ws) ≡ partAt s (getD ws (2 * k) 0) (lengthIn (getD ws (2 * k + 1) 0)) ∷ partsOf s (drop (2 * (k + 1)) ws)
 unfolding partsOf
 parts-next s ws k h = rw (two ws k (omega arith))
 
@@ -47,15 +48,16 @@ parts-end s ws k h = go (drop (2 * k) ws) (omega (arith, length-drop (2 * k) ws)
     go (x ∷ []) g = unfold partsOf in refl
     go (x ∷ y ∷ l) g = absurd (omega arith)
 
-pub inside-at : (s ws : List ℕ) (k : ℕ) → Inside s ws → k < length ws / 2 → getD ws (2 * k) 0 + getD ws (2 * k + 1) 0 ≤ length s
+pub inside-at : (s ws : List ℕ) (k : ℕ) → Inside s ws → k < length ws / 2
+    → (getD ws (2 * k) 0 + lengthIn (getD ws (2 * k + 1) 0) ≤ length s) × (getD ws (2 * k + 1) 0 ≡ markOf (bytesAt s (getD ws (2 * k) 0) (lengthIn (getD ws (2 * k + 1) 0))))
 unfolding Inside
 inside-at s [] k i h = absurd (omega arith)
 inside-at s (o ∷ []) k i h = absurd (omega arith)
-inside-at s (o ∷ n ∷ ws) zero i h = i .0
-inside-at s (o ∷ n ∷ ws) (suc k) i h =
+inside-at s (o ∷ w ∷ ws) zero i h = (i .0, i .1)
+inside-at s (o ∷ w ∷ ws) (suc k) i h =
     let a : 2 * suc k ≡ suc (suc (2 * k)) = omega arith in
     let b : 2 * suc k + 1 ≡ suc (suc (2 * k + 1)) = omega arith in
-    rw (b, a) (inside-at s ws k (i .1) (omega arith))
+    rw (b, a) (inside-at s ws k (i .2) (omega arith))
 
 pub length-parts : (s ws : List ℕ) → length (partsOf s ws) ≡ length ws / 2
 unfolding partsOf
@@ -63,32 +65,19 @@ length-parts s [] = refl
 length-parts s (x ∷ []) = refl
 length-parts s (x ∷ y ∷ ws) = let e = length-parts s ws in omega arith
 
--- the words of the parts are the entries
-pub words-of-parts : (s ws : List ℕ) (k : ℕ) → length ws ≡ 2 * k → Inside s ws → partsWords (partsOf s ws) ≡ ws
-unfolding partsWords partWords partsOf Inside
-words-of-parts s [] k e i = refl
-words-of-parts s (o ∷ []) k e i = absurd (omega arith)
-words-of-parts s (o ∷ n ∷ ws) k e i =
-    let h : length (take n (drop o s)) ≡ n = length-take-le n (drop o s) (omega (arith, i .0, length-drop o s)) in
-    ap₂ (λ (m : ℕ) (l : List ℕ). o ∷ m ∷ l) h (words-of-parts s ws (k - 1) (omega arith) (i .1))
+-- the words of the parts are the entries unmarked
+pub words-of-parts : (s ws : List ℕ) (k : ℕ) → 2 * k ≤ length ws → Inside s (take (2 * k) ws) → partsWords (partsOf s (take (2 * k) ws)) ≡ take (2 * k) (unmarked k ws)
+unfolding partsWords partWords partsOf Inside unmarked
+words-of-parts s ws zero e i = refl
+words-of-parts s [] (suc k) e i = absurd (omega arith)
+words-of-parts s (o ∷ []) (suc k) e i = absurd (omega arith)
+words-of-parts s (o ∷ w ∷ ws) (suc k) e i =
+    let a : 2 * suc k ≡ suc (suc (2 * k)) = omega arith in
+    let within = rw a at i in
+    let h : length (take (lengthIn w) (drop o s)) ≡ lengthIn w = length-take-le (lengthIn w) (drop o s) (omega (arith, within .0, length-drop o s)) in
+    rw a (ap₂ (λ (m : ℕ) (l : List ℕ). o ∷ m ∷ l) h (words-of-parts s ws k (omega arith) (within .2)))
 
 ---- the search
-
--- parts of two lengths have two strings
-pub other-length : (s : List ℕ) (o n p m : ℕ) → o + n ≤ length s → p + m ≤ length s → (m ≡ n → ⊥) → false ≡ same (bytesAt s o n) (bytesAt s p m)
-unfolding bytesAt
-other-length s o n p m h k ne = sym (same-long _ _ (λ e. ne (sym (sym (long o n h) ∙ e ∙ long p m k))))
-  where
-    long : (o n : ℕ) → o + n ≤ length s → length (take n (drop o s)) ≡ n
-    long o n h = length-take-le n (drop o s) (omega (arith, length-drop o s))
-
--- parts with two first bytes have two strings
-pub other-first : (s : List ℕ) (o n p m : ℕ) → 0 < n → m ≡ n → (getD s p 0 ≡ getD s o 0 → ⊥) → false ≡ same (bytesAt s o n) (bytesAt s p m)
-unfolding bytesAt
-other-first s o n p m h f ne = sym (same-no _ _ (λ e. ne (sym (first p m (omega arith)) ∙ ap (λ (l : List ℕ). getD l 0 0) (sym e) ∙ first o n h)))
-  where
-    first : (o n : ℕ) → 0 < n → getD (take n (drop o s)) 0 0 ≡ getD s o 0
-    first o n h = getD-take n (drop o s) 0 0 h ∙ getD-drop o s 0 0 ∙ ap (λ (k : ℕ). getD s k 0) (add-zero o)
 
 pub same-place : (s : List ℕ) {o n p m : ℕ} → p ≡ o → m ≡ n → true ≡ same (bytesAt s o n) (bytesAt s p m)
 same-place s {o} {n} {p} {m} e f = sym (rw (e, f) (same-refl (bytesAt s o n)))
@@ -102,17 +91,29 @@ module _ (store words x : List ℕ) where
   pub searched-start : Searched store words x 0
   searched-start = record { upto = omega arith; rest = refl }
 
-  pub searched-next : (k : ℕ) → Searched store words x k → k < length words / 2 → same x (bytesAt store (getD words (2 * k) 0) (getD words (2 * k + 1) 0)) ≡ false → Searched store words x (k + 1)
+  pub searched-next : (k : ℕ) → Searched store words x k → k < length words / 2 → same x (bytesAt store (getD words (2 * k) 0) (lengthIn (getD words (2 * k + 1) 0))) ≡ false → Searched store words x (k + 1)
   unfolding hasBytes bytesAt
   searched-next k g h e = record { upto = omega arith; rest = g .rest ∙ ap (hasBytes x) (parts-next store words k h) ∙ rw e }
 
-  pub searched-hit : (k : ℕ) → Searched store words x k → k < length words / 2 → same x (bytesAt store (getD words (2 * k) 0) (getD words (2 * k + 1) 0)) ≡ true → true ≡ hasBytes x (partsOf store words)
+  pub searched-hit : (k : ℕ) → Searched store words x k → k < length words / 2 → same x (bytesAt store (getD words (2 * k) 0) (lengthIn (getD words (2 * k + 1) 0))) ≡ true → true ≡ hasBytes x (partsOf store words)
   unfolding hasBytes bytesAt
   searched-hit k g h e = sym (g .rest ∙ ap (hasBytes x) (parts-next store words k h) ∙ rw e)
 
   pub searched-end : (k : ℕ) → Searched store words x k → length words / 2 ≤ k → false ≡ hasBytes x (partsOf store words)
   unfolding hasBytes
   searched-end k g h = sym (g .rest ∙ ap (hasBytes x) (parts-end store words k h))
+
+-- a search passes entries with other marks
+module _ (store words x : List ℕ) {w : ℕ} (inside : Inside store words) (e : w ≡ markOf x) where
+  pub searched-others : (k r : ℕ) → k ≤ r → r ≤ length words / 2 → OtherMarks words w k r → Searched store words x k → Searched store words x r
+  searched-others k r a b f g = go (r - k) k (omega arith) f g
+    where
+      go : (d k : ℕ) → k + d ≡ r → OtherMarks words w k r → Searched store words x k → Searched store words x r
+      go zero k q f g = subst (Searched store words x) (omega arith) g
+      go (suc d) k q f g =
+          let few : k < length words / 2 = omega arith in
+          let other = other-mark store x _ _ (inside-at store words k inside few .1) (λ m. f k (omega arith) (omega arith) (m ∙ sym e)) in
+          go d (k + 1) (omega arith) (λ i a. f i (omega arith)) (searched-next store words x k g few (sym other))
 
 ---- interning one string after another
 
@@ -140,17 +141,17 @@ take-two pool c o n h =
     ∙ ap (λ (l : List ℕ). l ++ (n ∷ [])) (ap (λ (k : ℕ). take k (set pool (2 * c) o)) (add-one (2 * c)) ∙ take-suc-set pool (2 * c) o (omega arith))
     ∙ append-assoc (take (2 * c) pool) (o ∷ []) (n ∷ [])
 
-parts-last : (s w : List ℕ) (k o n : ℕ) → length w ≡ 2 * k → partsOf s (w ++ (o ∷ n ∷ [])) ≡ partsOf s w ++ (partAt s o n ∷ [])
+parts-last : (s ws : List ℕ) (k o w : ℕ) → length ws ≡ 2 * k → partsOf s (ws ++ (o ∷ w ∷ [])) ≡ partsOf s ws ++ (partAt s o (lengthIn w) ∷ [])
 unfolding partsOf
-parts-last s [] k o n e = refl
-parts-last s (x ∷ []) k o n e = absurd (omega arith)
-parts-last s (x ∷ y ∷ w) k o n e = ap (λ (l : List Part). partAt s x y ∷ l) (parts-last s w (k - 1) o n (omega arith))
+parts-last s [] k o w e = refl
+parts-last s (x ∷ []) k o w e = absurd (omega arith)
+parts-last s (x ∷ y ∷ ws) k o w e = ap (λ (l : List Part). partAt s x (lengthIn y) ∷ l) (parts-last s ws (k - 1) o w (omega arith))
 
-inside-last : (s w : List ℕ) (k o n : ℕ) → length w ≡ 2 * k → Inside s w → o + n ≤ length s → Inside s (w ++ (o ∷ n ∷ []))
+inside-last : (s ws : List ℕ) (k o w : ℕ) → length ws ≡ 2 * k → Inside s ws → o + lengthIn w ≤ length s → w ≡ markOf (bytesAt s o (lengthIn w)) → Inside s (ws ++ (o ∷ w ∷ []))
 unfolding Inside
-inside-last s [] k o n e i h = (h, tt)
-inside-last s (x ∷ []) k o n e i h = absurd (omega arith)
-inside-last s (x ∷ y ∷ w) k o n e i h = (i .0, inside-last s w (k - 1) o n (omega arith) (i .1) h)
+inside-last s [] k o w e i h m = (h, m, tt)
+inside-last s (x ∷ []) k o w e i h m = absurd (omega arith)
+inside-last s (x ∷ y ∷ ws) k o w e i h m = (i .0, i .1, inside-last s ws (k - 1) o w (omega arith) (i .2) h m)
 
 ---- what interning leaves
 
@@ -178,15 +179,17 @@ module _ {s pool : List ℕ} {c : ℕ} (h : Holding s pool c) where
     pub interned-there : true ≡ has → Interned s pool pool c (gathered.Pooled c) (partIn s o n ∷ [])
     interned-there e = record { outcome = record { holding = h; parts = sym (one ∙ rw (sym e) (unfold if_then_else_ in refl)); long = refl } }
 
-    pub interned-new : false ≡ has → c < stringCapacity (length pool) → Interned s pool (set (set pool (2 * c) a) (2 * c + 1) m) c (gathered.Pooled (c + 1)) (partIn s o n ∷ [])
+    pub interned-new : false ≡ has → c < stringCapacity (length pool) → Interned s pool (set (set pool (2 * c) a) (2 * c + 1) (markOf (bytesAt s a m))) c (gathered.Pooled (c + 1)) (partIn s o n ∷ [])
     interned-new e few =
-        let long : length (set (set pool (2 * c) a) (2 * c + 1) m) ≡ length pool = simp length-set in
-        let words = take-two pool c a m (omega arith) in
-        let w : length (take (2 * c) pool) ≡ 2 * c = length-take-le (2 * c) pool (omega arith) in
+        let w = markOf (bytesAt s a m) in
+        let long : length (set (set pool (2 * c) a) (2 * c + 1) w) ≡ length pool = simp length-set in
+        let words = take-two pool c a w (omega arith) in
+        let front : length (take (2 * c) pool) ≡ 2 * c = length-take-le (2 * c) pool (omega arith) in
+        let back : lengthIn w ≡ m = length-in-mark s a m (omega arith) (h .short) refl in
         record {
           outcome = record {
-            holding = record { fits = rw long (omega arith); inside = rw words (inside-last s (take (2 * c) pool) c a m w (h .inside) (omega arith)) };
-            parts = ap (partsOf s) words ∙ parts-last s (take (2 * c) pool) c a m w ∙ sym (one ∙ rw (sym e) (unfold if_then_else_ in refl));
+            holding = record { short = h .short; fits = rw long (omega arith); inside = rw words (inside-last s (take (2 * c) pool) c a w front (h .inside) (rw back (omega arith)) (rw back)) };
+            parts = ap (partsOf s) words ∙ parts-last s (take (2 * c) pool) c a w front ∙ ap (λ (k : ℕ). firstParts s pool c ++ (partAt s a k ∷ [])) back ∙ sym (one ∙ rw (sym e) (unfold if_then_else_ in refl));
             long = long;
           };
         }
@@ -217,9 +220,9 @@ interned-more {s} {p} {p′} {c} {xs} p″ ys f = record { outcome = omega (arit
 pub interned-as : {s p p′ : List ℕ} {c : ℕ} {r r′ : Gathered} {xs ys : List Part} → r ≡ r′ → xs ≡ ys → Interned s p p′ c r xs → Interned s p p′ c r′ ys
 interned-as {s} {p} {p′} {c} {r} {r′} {xs} {ys} e f g = subst (λ (q : Gathered). Interned s p p′ c q ys) e (subst (λ (l : List Part). Interned s p p′ c r l) f g)
 
-pub holding-none : (s pool : List ℕ) → Holding s pool 0
+pub holding-none : (s pool : List ℕ) → length s ≤ sizeLimit → Holding s pool 0
 unfolding Inside
-holding-none s pool = record { fits = omega arith; inside = tt }
+holding-none s pool short = record { short = short; fits = omega arith; inside = tt }
 
 ---- the answer
 
@@ -232,9 +235,13 @@ answer-is {s} {p} {p′} {xs} (gathered.Pooled n) g =
     rw (e, le-leb n (stringCapacity (length p)) (omega (arith, k .holding .fits, k .long)))
 answer-is {s} {p} {p′} {xs} gathered.Full g = rw (lt-leb (length (internedParts [] xs)) (stringCapacity (length p)) (g .outcome))
 
-pub entries-are : {s p p′ : List ℕ} {xs : List Part} (r : Gathered) → Interned s p p′ 0 r xs → take (2 * entryCount r) p′ ≡ entryWords r (internedParts [] xs)
+-- the entries once the table is unmarked
+pub entries-are : {s p p′ : List ℕ} {xs : List Part} (n : ℕ) → Interned s p p′ 0 (gathered.Pooled n) xs → take (2 * entryCount (gathered.Pooled n)) (unmarked n p′) ≡ entryWords (gathered.Pooled n) (internedParts [] xs)
 unfolding entryCount entryWords partsOf
-entries-are {s} {p} {p′} {xs} (gathered.Pooled n) g =
+entries-are {s} {p} {p′} {xs} n g =
     let k = g .outcome in
-    sym (ap partsWords (sym (k .parts)) ∙ words-of-parts s (take (2 * n) p′) n (length-take-le (2 * n) p′ (omega (arith, k .holding .fits))) (k .holding .inside))
-entries-are {s} {p} {p′} {xs} gathered.Full g = refl
+    sym (ap partsWords (sym (k .parts)) ∙ words-of-parts s p′ n (omega (arith, k .holding .fits)) (k .holding .inside))
+
+pub entries-none : (p : List ℕ) (l : List Part) → take (2 * entryCount gathered.Full) p ≡ entryWords gathered.Full l
+unfolding entryCount entryWords
+entries-none p l = refl

@@ -3,21 +3,19 @@ use mathlib.Core.Bool.{Bool, true, false}
 use mathlib.Core.List.{List, [], _∷_}
 use mathlib.Core.Path.{_≡_, refl, sym, ap, _∙_, subst}
 use Prim.Native.Nat.{ℕ, _+_, _-_, _*_, _≤_, _<_, min}
-use native.Mathlib.Omega.{arith}
 use lib.Dec.{ltb}
-use lib.ListN.{length, set, drop, length-drop}
-use lib.Seq.{length-take-le}
+use lib.ListN.{length, set}
 use borrow.Author.Tests.{lt-ltb, le-ltb, ltb-true, ltb-false}
 use Rattle.slices.specs.Laws.Put.{put-cons, put-last}
 use Rattle.payload.specs.Choice.{if_then_else_, _and_}
-use Rattle.payload.specs.Rows.{partWords}
 use Rattle.payload.specs.Write.{hasBytes}
 use Rattle.pool_index.specs.Laws.Strings.{bytes-cut}
 use Rattle.pool_index.specs.Strings.{bytesAt}
 use Rattle.gather.specs.Gather.{partIn, stringCapacity}
 use Rattle.gather.specs.Interning.{firstParts, Holding, Interned}
 use Rattle.gather.specs.Laws.Interning.{part-cut, interned-there, interned-new, interned-full}
-use Rattle.gather.specs.Placing.{isThere, isAdded, fitsIn, usedAfter, tableAfter, placedOf, gatheredOf}
+use Rattle.gather.specs.Marks.{markOf}
+use Rattle.gather.specs.Placing.{markedWords, isThere, isAdded, fitsIn, usedAfter, tableAfter, placedOf, gatheredOf}
 use Rattle.gather.specs.declared.Gathered.{Gathered}
 use Rattle.gather.specs.declared.Placed.{Placed}
 
@@ -31,19 +29,19 @@ module _ (s t : List ℕ) (u o n a m : ℕ) (ea : a ≡ min o (length s)) (em : 
   unfolding isThere bytesAt
   there-is b e = ap (λ (x : List ℕ). hasBytes x (firstParts s t u)) (sym (bytes-cut s o n a m ea em)) ∙ sym e
 
-  words-are : partWords (partIn s o n) ≡ a ∷ m ∷ []
-  unfolding partWords
-  words-are = ap partWords (sym (part-cut s o n a m ea em)) ∙ ap (λ (k : ℕ). a ∷ k ∷ []) (length-take-le m (drop a s) (omega (arith, length-drop a s)))
+  words-are : markedWords (partIn s o n) ≡ a ∷ markOf (bytesAt s a m) ∷ []
+  unfolding markedWords bytesAt
+  words-are = ap markedWords (sym (part-cut s o n a m ea em))
 
   pub placed-there : true ≡ has → (record { used = u; fits = true } ≡ placedOf s t u o n) × (t ≡ tableAfter s t u o n)
   unfolding isAdded fitsIn usedAfter tableAfter if_then_else_ _and_
   placed-there e = (rw (there-is true e), rw (there-is true e))
 
-  pub placed-new : false ≡ has → u < stringCapacity (length t) → (record { used = u + 1; fits = true } ≡ placedOf s t u o n) × (set (set t (2 * u) a) (2 * u + 1) m ≡ tableAfter s t u o n)
+  pub placed-new : false ≡ has → u < stringCapacity (length t) → (record { used = u + 1; fits = true } ≡ placedOf s t u o n) × (set (set t (2 * u) a) (2 * u + 1) (markOf (bytesAt s a m)) ≡ tableAfter s t u o n)
   unfolding isAdded fitsIn usedAfter tableAfter if_then_else_ _and_
   placed-new e h = (
     rw (there-is false e, lt-ltb u (stringCapacity (length t)) h),
-    rw (there-is false e, lt-ltb u (stringCapacity (length t)) h, words-are) (put-last (set t (2 * u) a) (2 * u + 1) m ∙ put-cons t (2 * u) a (m ∷ [])),
+    rw (there-is false e, lt-ltb u (stringCapacity (length t)) h, words-are) (put-last (set t (2 * u) a) (2 * u + 1) (markOf (bytesAt s a m)) ∙ put-cons t (2 * u) a (markOf (bytesAt s a m) ∷ [])),
   )
 
   pub placed-full : false ≡ has → stringCapacity (length t) ≤ u → (record { used = u; fits = false } ≡ placedOf s t u o n) × (t ≡ tableAfter s t u o n)
