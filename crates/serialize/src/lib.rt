@@ -6,7 +6,7 @@ ghost use lib.ListN.{length, take};
 ghost use Rattle.slices.specs.Zeros.{padTo};
 ghost use Rattle.payload.specs.Reader.{Part, State, ok};
 ghost use Rattle.payload.specs.Sound.{scriptOf};
-ghost use Rattle.payload.specs.Tables.{capacitiesOf, partsWords};
+ghost use Rattle.payload.specs.Tables.{capacitiesOf, partsWords, sizeLimit};
 ghost use Rattle.payload.specs.Trees.{Script};
 ghost use Rattle.payload.specs.Write.{heldTables, countsFit, notWritten, afterSound, writeTables, writeAnswer, WriteLeaves};
 ghost use Rattle.scan_rows.specs.Found.{WholeRows, tables};
@@ -138,6 +138,7 @@ fn write_sound(
     out: &mut [u8],
 ) -> Written
     requires { ⌜ ((u : Script Part) × (s : State) × (scriptOf (tables (now store) (now rows) (now spans) (now starts) flag «name_o» «name_n») ≡ ok u s)) ⌝ }
+    requires { ⌜ length (now store) ≤ sizeLimit ⌝ }
     ensures { λ r. ⌜ WriteLeaves (afterSound (stringCapacity (length (now (pool .entry)))) (length (now (out .entry))) (scriptOf (tables (now (store .entry)) (now (rows .entry)) (now (spans .entry)) (now (starts .entry)) flag «name_o» «name_n»))) (now (pool .entry)) (now (out .entry)) (now (pool .exit)) (now (out .exit)) r ⌝ }
 {
     match gather::gather_strings(store, rows, flag, name_o, name_n, pool) {
@@ -171,6 +172,7 @@ fn write_tables(
 ) -> Written
     requires { ⌜ WholeRows (now rows) ⌝ }
     requires { ⌜ length (now spans) ≡ 2 * (length (now spans) / 2) ⌝ }
+    requires { ⌜ length (now store) ≤ sizeLimit ⌝ }
     ensures { λ r. ⌜ WriteLeaves (afterSound (stringCapacity (length (now (pool .entry)))) (length (now (out .entry))) (scriptOf (tables (now (store .entry)) (now (rows .entry)) (now (spans .entry)) (now (starts .entry)) flag «name_o» «name_n»))) (now (pool .entry)) (now (out .entry)) (now (pool .exit)) (now (out .exit)) r ⌝ }
 {
     match scan_rows::scan_tables(store, rows, spans, starts, flag, name_o, name_n) {
