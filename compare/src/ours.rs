@@ -3,7 +3,7 @@
 use crate::document::{Counts, Loan, Program, Reading, Tables, Write, answered};
 use crate::layout;
 use crate::random::Random;
-use port::host_tables;
+use port::ReadCall;
 
 /// What a read or check returns and leaves.
 #[derive(Debug, PartialEq)]
@@ -58,7 +58,7 @@ impl Called {
 }
 
 /// Tables in which some word stands everywhere.
-fn lent(random: &mut Random, loan: Loan) -> Tables {
+pub fn lent(random: &mut Random, loan: Loan) -> Tables {
     let word = random.draw();
     Tables {
         rows: vec![word; loan.rows],
@@ -68,51 +68,16 @@ fn lent(random: &mut Random, loan: Loan) -> Tables {
     }
 }
 
+/// Reads or checks a payload.
 pub fn read(
-    random: &mut Random,
+    call: ReadCall,
     payload: &[u8],
     names: &[u8],
-    loan: Loan,
+    mut tables: Tables,
     answer: &[u64],
 ) -> Called {
-    call(
-        host_tables::deserialize,
-        random,
-        payload,
-        names,
-        loan,
-        answer,
-    )
-}
-
-pub fn check(
-    random: &mut Random,
-    payload: &[u8],
-    names: &[u8],
-    loan: Loan,
-    answer: &[u64],
-) -> Called {
-    call(
-        host_tables::house_check,
-        random,
-        payload,
-        names,
-        loan,
-        answer,
-    )
-}
-
-fn call(
-    function: host_tables::Read,
-    random: &mut Random,
-    payload: &[u8],
-    names: &[u8],
-    loan: Loan,
-    answer: &[u64],
-) -> Called {
-    let mut tables = lent(random, loan);
     let mut answer = answer.to_vec();
-    let number = function(
+    let number = call(
         payload,
         names,
         &mut tables.rows,
@@ -162,20 +127,25 @@ pub fn write(
     let mut answer = answer.to_vec();
     let mut pool = vec![random.draw(); pool_words];
     let mut out = out.to_vec();
-    let number = host_tables::serialize(
-        program.store,
-        &program.counts.words(),
-        program.rows,
-        program.spans,
-        program.starts,
-        &mut pool,
-        &mut out,
-        &mut answer,
-    );
+    let number = serialize(program, &mut pool, &mut out, &mut answer);
     Written {
         number,
         answer,
         pool,
         out,
     }
+}
+
+/// The write of a program, with what is lent for it.
+pub fn serialize(program: &Program, pool: &mut [u64], out: &mut [u8], answer: &mut [u64]) -> u64 {
+    port::rlc2_serialize(
+        program.store,
+        &program.counts.words(),
+        program.rows,
+        program.spans,
+        program.starts,
+        pool,
+        out,
+        answer,
+    )
 }

@@ -1,6 +1,6 @@
 //! The calls on bytes alone: the UTF-8 test and the varint.
 
-use crate::linked;
+use crate::calls;
 use crate::refusal::Refusal;
 
 /// Whether the bytes are UTF-8, by RFC 3629.
@@ -10,7 +10,7 @@ use crate::refusal::Refusal;
 /// assert!(!rlc2::is_utf8(&[0xC3, 0x28]));
 /// ```
 pub fn is_utf8(bytes: &[u8]) -> bool {
-    linked::is_utf8(bytes) == 1
+    calls::rlc2_is_utf8(bytes) == 1
 }
 
 /// A number that stands at the front of some bytes.
@@ -34,13 +34,14 @@ pub struct Uvarint {
 /// # Ok::<(), rlc2::Refusal>(())
 /// ```
 pub fn uvarint(bytes: &[u8]) -> Result<Uvarint, Refusal> {
-    match linked::uvarint(bytes) {
+    let mut number = [0; 8];
+    match calls::rlc2_uvarint(bytes, &mut number) {
         // Of ten bytes and more only the tenth byte can be refused, of fewer only their end.
-        (0, _) => Err(Refusal {
+        0 => Err(Refusal {
             number: if bytes.len() < 10 { 1 } else { 2 },
             place: 0,
         }),
-        (length, number) => Ok(Uvarint {
+        length => Ok(Uvarint {
             number: u64::from_le_bytes(number),
             length,
         }),

@@ -11,6 +11,8 @@
 //! | find lines | [`line_starts`], [`line_col`] | |
 //! | test text, read a number | [`is_utf8`], [`uvarint`] | |
 //!
+//! [`calls`] has the calls as the libraries export them, with answers in lent words.
+//!
 //! ```
 //! let payload = [1, 2, b'H', b'i', 1, 0, 1, 0, 10, 1, 1, 6, 0, 1, 0, 1, 0];
 //! let mut tables = rlc2::Tables::new();
@@ -24,8 +26,8 @@
 #![deny(unsafe_code)]
 
 mod bytes;
+pub mod calls;
 mod lines;
-mod linked;
 mod program;
 mod read;
 mod refusal;

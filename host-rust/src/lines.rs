@@ -1,6 +1,6 @@
 //! The calls on lines: where they start in a text, and the line and column of an offset.
 
-use crate::linked;
+use crate::calls;
 use crate::refusal::Refusal;
 use crate::tables::{Sizes, count};
 
@@ -25,7 +25,9 @@ pub struct LineCol {
 /// # Ok::<(), rlc2::Refusal>(())
 /// ```
 pub fn line_starts<'a>(text: &[u8], starts: &'a mut [u32]) -> Result<&'a [u32], Refusal> {
-    let [number, used] = linked::line_starts(text, starts);
+    let mut answer = [0; 2];
+    calls::rlc2_line_starts(text, starts, &mut answer);
+    let [number, used] = answer;
     Refusal::unless_accepted(number, used)?;
     Ok(starts.get(..count(used)).unwrap_or_default())
 }
@@ -48,7 +50,9 @@ pub fn line_count(text: &[u8]) -> usize {
 /// # Ok::<(), rlc2::Refusal>(())
 /// ```
 pub fn line_col(starts: &[u32], offset: u64) -> Result<LineCol, Refusal> {
-    let [number, place, line, column] = linked::line_col(starts, offset);
+    let mut answer = [0; 4];
+    calls::rlc2_line_col(starts, offset, &mut answer);
+    let [number, place, line, column] = answer;
     Refusal::unless_accepted(number, place)?;
     Ok(LineCol { line, column })
 }

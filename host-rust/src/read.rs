@@ -1,9 +1,12 @@
 //! The calls that read a payload into lent tables.
 
-use crate::linked::{self, ReadFields};
+use crate::calls::{self, ReadCall};
 use crate::program::{LineIndex, Program};
 use crate::refusal::{Refusal, RefusalNumber};
-use crate::tables::{Loan, Part, count};
+use crate::tables::{Loan, Part, Sizes, count};
+
+/// Number, bytes consumed or place, rows, spans, starts, strings, line flag, the name's offset and length.
+pub(crate) type ReadFields = [u64; 9];
 
 /// What an accepted read or check gives: the used parts of the lent tables.
 #[derive(Debug, Clone, Copy, PartialEq, Eq)]
@@ -49,6 +52,36 @@ impl<'a> Read<'a> {
             strings: used(loan.strings, strings),
         })
     }
+
+    /// The sizes of the smallest tables that hold the payload.
+    pub fn sizes(&self) -> Sizes {
+        Sizes {
+            rows: self.program.rows.len(),
+            spans: self.program.spans.len(),
+            starts: self.program.starts().len(),
+            strings: self.strings.len(),
+        }
+    }
+}
+
+/// What a read or check of the payload into the lent tables answers.
+pub(crate) fn read_fields(
+    call: ReadCall,
+    payload: &[u8],
+    names: &[u8],
+    loan: &mut Loan<'_>,
+) -> ReadFields {
+    let mut answer = [0; 9];
+    call(
+        payload,
+        names,
+        loan.rows.as_flattened_mut(),
+        loan.spans.as_flattened_mut(),
+        loan.starts,
+        loan.strings.as_flattened_mut(),
+        &mut answer,
+    );
+    answer
 }
 
 fn used<T>(table: &[T], entries: u64) -> &[T] {
@@ -72,7 +105,7 @@ pub fn deserialize<'a>(
     names: &[u8],
     mut loan: Loan<'a>,
 ) -> Result<Read<'a>, Refusal> {
-    let fields = linked::deserialize(payload, names, reborrowed(&mut loan));
+    let fields = read_fields(calls::rlc2_deserialize, payload, names, &mut loan);
     Read::new(fields, payload, loan)
 }
 
@@ -95,7 +128,7 @@ pub fn house_check<'a>(
     names: &[u8],
     mut loan: Loan<'a>,
 ) -> Result<Read<'a>, Refusal> {
-    let fields = linked::house_check_tables(payload, names, reborrowed(&mut loan));
+    let fields = read_fields(calls::rlc2_house_check_tables, payload, names, &mut loan);
     Read::new(fields, payload, loan)
 }
 
@@ -107,17 +140,8 @@ pub fn house_check<'a>(
 /// assert_eq!(rlc2::house_check_own_tables(&[0, 0], b"").unwrap_err().0, 1);
 /// ```
 pub fn house_check_own_tables(payload: &[u8], names: &[u8]) -> Result<(), RefusalNumber> {
-    match linked::house_check(payload, names) {
+    match calls::rlc2_house_check(payload, names) {
         0 => Ok(()),
         number => Err(RefusalNumber(number)),
-    }
-}
-
-fn reborrowed<'b>(loan: &'b mut Loan<'_>) -> Loan<'b> {
-    Loan {
-        rows: loan.rows,
-        spans: loan.spans,
-        starts: loan.starts,
-        strings: loan.strings,
     }
 }

@@ -1,8 +1,8 @@
 //! The tables that a caller lends: their entries, their sizes, and memory for them.
 
 use crate::bytes::uvarint;
-use crate::linked::{self, ReadFields};
-use crate::read::Read;
+use crate::calls::{self, ReadCall};
+use crate::read::{Read, ReadFields, read_fields};
 use crate::refusal::Refusal;
 
 /// Tag and four words; unused words are 0.
@@ -199,7 +199,7 @@ impl Tables {
         payload: &'a [u8],
         names: &[u8],
     ) -> Result<Read<'a>, Refusal> {
-        let fields = self.enlarged_until_accepted(linked::deserialize, payload, names);
+        let fields = self.enlarged_until_accepted(calls::rlc2_deserialize, payload, names);
         Read::new(fields, payload, self.loan())
     }
 
@@ -215,13 +215,13 @@ impl Tables {
         payload: &'a [u8],
         names: &[u8],
     ) -> Result<Read<'a>, Refusal> {
-        let fields = self.enlarged_until_accepted(linked::house_check_tables, payload, names);
+        let fields = self.enlarged_until_accepted(calls::rlc2_house_check_tables, payload, names);
         Read::new(fields, payload, self.loan())
     }
 
     fn enlarged_until_accepted(
         &mut self,
-        call: fn(&[u8], &[u8], Loan<'_>) -> ReadFields,
+        call: ReadCall,
         payload: &[u8],
         names: &[u8],
     ) -> ReadFields {
@@ -231,7 +231,7 @@ impl Tables {
         };
         self.raise(Sizes::likely(payload).within(enough));
         loop {
-            let fields = call(payload, names, self.loan());
+            let fields = read_fields(call, payload, names, &mut self.loan());
             if !self.enlarge_refused(fields[0], enough) {
                 return fields;
             }

@@ -1,6 +1,6 @@
 //! The call that writes a program as payload bytes.
 
-use crate::linked;
+use crate::calls;
 use crate::program::Program;
 use crate::refusal::Refusal;
 use crate::tables::{BYTE_LIMIT, Part, Sizes, count};
@@ -26,7 +26,18 @@ pub fn serialize<'a>(
     strings: &mut [Part],
     out: &'a mut [u8],
 ) -> Result<&'a [u8], Refusal> {
-    let [number, length] = linked::serialize(program, strings, out);
+    let mut answer = [0; 2];
+    calls::rlc2_serialize(
+        program.store,
+        &program.counts(),
+        program.rows.as_flattened(),
+        program.spans.as_flattened(),
+        program.starts(),
+        strings.as_flattened_mut(),
+        out,
+        &mut answer,
+    );
+    let [number, length] = answer;
     Refusal::unless_accepted(number, length)?;
     Ok(out.get(..count(length)).unwrap_or_default())
 }

@@ -1,6 +1,6 @@
 //! The calls on sample payloads, on damaged copies of them, and at the limits of what is lent.
 
-use rlc2::{LineIndex, Loan, Program, Read, Refusal, RefusalNumber, Sizes, Tables};
+use rlc2::{LineIndex, Loan, Program, Refusal, RefusalNumber, Sizes, Tables};
 
 const SAMPLES: [&[u8]; 3] = [
     include_bytes!("../../samples/title.rlc2"),
@@ -15,18 +15,6 @@ const ONE_NULL: &[u8] = &[0, 0, 0, 1, 0, 0];
 
 fn refusal(number: u64, place: usize) -> Refusal {
     Refusal { number, place }
-}
-
-fn needed(read: &Read) -> Sizes {
-    Sizes {
-        rows: read.program.rows.len(),
-        spans: read.program.spans.len(),
-        starts: read
-            .program
-            .line_index
-            .map_or(0, |index| index.starts.len()),
-        strings: read.strings.len(),
-    }
 }
 
 fn refused_with(payload: &[u8], sizes: Sizes) -> u64 {
@@ -64,7 +52,7 @@ fn exact_tables_hold_a_payload_and_shorter_ones_are_full() {
     let payload = SAMPLES[2];
     let mut ample = Tables::for_payload(payload);
     let read = rlc2::deserialize(payload, b"", ample.loan()).expect("reads");
-    let exact = needed(&read);
+    let exact = read.sizes();
     let mut tables = Tables::with_sizes(exact);
     assert_eq!(rlc2::deserialize(payload, b"", tables.loan()), Ok(read));
     let Sizes {
@@ -94,7 +82,7 @@ fn what_the_tables_held_before_is_gone() {
     loan.spans.fill([7; 2]);
     loan.starts.fill(7);
     loan.strings.fill([7; 2]);
-    let used = rlc2::deserialize(payload, b"", tables.loan()).map(|read| needed(&read));
+    let used = rlc2::deserialize(payload, b"", tables.loan()).map(|read| read.sizes());
     let used = used.expect("reads");
     let loan = tables.loan();
     assert!(

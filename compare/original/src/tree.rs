@@ -86,7 +86,8 @@ fn value(value: &VmValue) -> Row {
     }
 }
 
-fn numbers(tag: u64, words: &[u64]) -> Row {
+/// A row of words alone.
+pub fn numbers(tag: u64, words: &[u64]) -> Row {
     Row {
         tag,
         words: words.to_vec(),
@@ -94,7 +95,8 @@ fn numbers(tag: u64, words: &[u64]) -> Row {
     }
 }
 
-fn strings(tag: u64, texts: &[&str]) -> Row {
+/// A row of strings alone.
+pub fn strings(tag: u64, texts: &[&str]) -> Row {
     Row {
         tag,
         parts: texts.iter().map(|text| text.as_bytes().to_vec()).collect(),
@@ -110,7 +112,8 @@ fn holding(tag: u64, inner: &VmValue) -> Row {
     }
 }
 
-fn counted(tag: u64, below: Vec<Row>) -> Row {
+/// A row whose word is the count of the rows below it.
+pub fn counted(tag: u64, below: Vec<Row>) -> Row {
     Row {
         tag,
         words: vec![below.len() as u64],

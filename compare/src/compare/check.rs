@@ -9,7 +9,7 @@ use crate::ours::{self, Called};
 use crate::random::Random;
 use crate::tally::{Tally, hex};
 use original::native::Module;
-use port::host;
+use port::rlc2_house_check_tables;
 
 /// So many programs are drawn by each thread; each gives several payloads.
 const PROGRAMS: usize = 370_000;
@@ -117,13 +117,14 @@ impl Comparison {
     fn compare_own_tables(&mut self, payload: &[u8], names: &[u8]) {
         let expected = document::check(payload, names, OWN_TABLES).fields()[0];
         self.own_tables.answer(expected);
-        let number = host::house_check(payload, names);
+        let number = port::rlc2_house_check(payload, names);
         self.own_tables.same(number, expected, || hex(payload));
     }
 
     fn compare_lent(&mut self, payload: &[u8], names: &[u8], loan: Loan, reading: Reading) -> u64 {
         let answer = self.random.some_words(12);
-        let called = ours::check(&mut self.random, payload, names, loan, &answer);
+        let tables = ours::lent(&mut self.random, loan);
+        let called = ours::read(rlc2_house_check_tables, payload, names, tables, &answer);
         let expected = Called::expected(reading, &answer);
         self.against_document.answer(expected.number);
         self.against_document.same(&called, &expected, || {

@@ -5,7 +5,6 @@ use crate::inputs::lines;
 use crate::random::Random;
 use crate::tally::Tally;
 use original::LineIndex;
-use port::host_tables;
 
 const TABLES: usize = 100_000;
 const OFFSETS: usize = 8;
@@ -33,7 +32,7 @@ fn against_rust(tally: &mut Tally, random: &mut Random, starts: Vec<u32>) {
     for _ in 0..OFFSETS {
         let offset = lines::offset(random, starts);
         let mut answer = [0; 4];
-        let number = host_tables::line_col(starts, offset, &mut answer);
+        let number = port::rlc2_line_col(starts, offset, &mut answer);
         let (line, column) = index.line_col(offset as usize);
         let ours = (number, answer[2] as usize, answer[3] as usize);
         tally.same(ours, (0, line, column), || described(starts, offset));
@@ -52,7 +51,7 @@ pub fn answers(seed: u64) -> Tally {
         let offset = lines::offset(&mut random, &starts);
         let lent = random.some_words(7);
         let mut answer = lent.clone();
-        let number = host_tables::line_col(&starts, offset, &mut answer);
+        let number = port::rlc2_line_col(&starts, offset, &mut answer);
         let (expected, fields) = match document::line_col(&starts, offset) {
             Ok((line, column)) => (0, [0, 0, line, column]),
             Err((number, place)) => (number, [number, place as u64, 0, 0]),

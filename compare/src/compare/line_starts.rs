@@ -5,7 +5,6 @@ use crate::inputs::lines;
 use crate::random::Random;
 use crate::tally::{Tally, hex};
 use original::LineIndex;
-use port::host_tables;
 
 const RANDOM_INPUTS: usize = 150_000;
 
@@ -20,7 +19,7 @@ pub fn texts(seed: u64) -> Tally {
         let expected = LineIndex::new("", &text);
         let room = expected.line_starts().len() + random.below(3);
         let mut answer = [0; 2];
-        let number = host_tables::line_starts(text.as_bytes(), &mut starts[..room], &mut answer);
+        let number = port::rlc2_line_starts(text.as_bytes(), &mut starts[..room], &mut answer);
         let used = &starts[..room.min(answer[1] as usize)];
         tally.same((number, used), (0, expected.line_starts()), || {
             hex(text.as_bytes())
@@ -69,7 +68,7 @@ fn compare(tally: &mut Tally, random: &mut Random, text: &[u8], room: usize) {
     let mut starts = vec![random.draw() as u32; room];
     let lent = random.some_words(5);
     let mut answer = lent.clone();
-    let number = host_tables::line_starts(text, &mut starts, &mut answer);
+    let number = port::rlc2_line_starts(text, &mut starts, &mut answer);
     let (expected, word, table) = match document::line_starts(text, room) {
         Ok((count, table)) => (0, count, table),
         Err((number, place)) => (number, place, vec![0; room]),

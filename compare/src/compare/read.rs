@@ -110,7 +110,8 @@ impl Comparison {
         reading: Reading,
         answer: Vec<u64>,
     ) -> Option<Called> {
-        let called = ours::read(&mut self.random, payload, names, loan, &answer);
+        let tables = ours::lent(&mut self.random, loan);
+        let called = ours::read(port::rlc2_deserialize, payload, names, tables, &answer);
         let expected = Called::expected(reading, &answer);
         self.against_document.answer(expected.number);
         let same = self.against_document.same(&called, &expected, || {

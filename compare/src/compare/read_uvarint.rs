@@ -5,7 +5,6 @@ use crate::inputs::varints;
 use crate::messages::refusal;
 use crate::random::Random;
 use crate::tally::{Tally, hex};
-use port::{host, host_leaves};
 
 const RANDOM_INPUTS: usize = 500_000;
 
@@ -14,7 +13,7 @@ pub fn host(seed: u64) -> Tally {
     let mut tally = Tally::new("rlc2_uvarint, the Rust's uvarint");
     varints::all(seed, |bytes| {
         let mut number = [0; 8];
-        let used = host::uvarint(bytes, &mut number);
+        let used = port::rlc2_uvarint(bytes, &mut number);
         let expected = original::uvarint(bytes).unwrap_or_default();
         tally.same((u64::from_le_bytes(number), used), expected, || hex(bytes));
     });
@@ -34,7 +33,7 @@ pub fn leaf(seed: u64) -> Tally {
 pub fn signed(seed: u64) -> Tally {
     let mut tally = Tally::new("rlc2_unzigzag, the Rust's ivarint");
     varints::all(seed, |bytes| {
-        let ours = read(bytes).map(|(word, used)| (host_leaves::unzigzag(word), used));
+        let ours = read(bytes).map(|(word, used)| (port::rlc2_unzigzag(word), used));
         let expected = original::ivarint(bytes).map_err(|message| refusal(&message));
         tally.same(ours, expected, || hex(bytes));
     });
@@ -43,7 +42,7 @@ pub fn signed(seed: u64) -> Tally {
 
 fn read(bytes: &[u8]) -> Result<(u64, usize), u64> {
     let mut answer = [0; 3];
-    match host_leaves::uvarint_at(bytes, 0, &mut answer) {
+    match port::rlc2_uvarint_at(bytes, 0, &mut answer) {
         0 => Ok((answer[0], answer[1] as usize)),
         number => Err(number),
     }
@@ -61,7 +60,7 @@ pub fn places(seed: u64) -> Tally {
         };
         let lent = random.some_words(6);
         let mut answer = lent.clone();
-        let number = host_leaves::uvarint_at(&bytes, at, &mut answer);
+        let number = port::rlc2_uvarint_at(&bytes, at, &mut answer);
         let (expected, fields) = match uvarint_at(&bytes, at) {
             Ok((value, next)) => (0, [value, next as u64, 0]),
             Err((number, place)) => (number, [0, 0, place as u64]),
@@ -83,7 +82,7 @@ pub fn lent_number(seed: u64) -> Tally {
         let bytes = varints::damaged(&mut random);
         let lent = random.some_bytes(13);
         let mut number = lent.clone();
-        let used = host::uvarint(&bytes, &mut number);
+        let used = port::rlc2_uvarint(&bytes, &mut number);
         tally.same((used, number), number_in(&bytes, &lent), || {
             format!("{}, {} bytes for the number", hex(&bytes), lent.len())
         });
@@ -110,7 +109,7 @@ pub fn many(seed: u64) -> Tally {
         let bytes = several(&mut random);
         let lent = random.some_words(12);
         let mut numbers = lent.clone();
-        let count = host_leaves::read_all(&bytes, &mut numbers);
+        let count = port::rlc2_read_all(&bytes, &mut numbers);
         let mut expected = Vec::new();
         original::read_uvarints(&bytes, &mut expected);
         expected.truncate(lent.len());

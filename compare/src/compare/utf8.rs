@@ -2,7 +2,6 @@
 
 use crate::inputs::utf8;
 use crate::tally::{Tally, hex};
-use port::host;
 use std::str::from_utf8;
 
 /// So many of the last bytes of an input are shown.
@@ -13,7 +12,7 @@ pub fn is_utf8(seed: u64) -> Tally {
     utf8::all(seed, |bytes| {
         let expected = u64::from(from_utf8(bytes).is_ok());
         let from = bytes.len().saturating_sub(SHOWN);
-        tally.same(host::is_utf8(bytes), expected, || {
+        tally.same(port::rlc2_is_utf8(bytes), expected, || {
             format!(
                 "{} bytes, from {from}: {}",
                 bytes.len(),

@@ -3,7 +3,6 @@
 use crate::inputs::numbers;
 use crate::random::Random;
 use crate::tally::{Tally, hex};
-use port::host_leaves;
 
 const RANDOM_INPUTS: usize = 1_000_000;
 
@@ -13,8 +12,8 @@ pub fn one(seed: u64) -> Tally {
     let mut expected = Vec::new();
     numbers::all(seed, RANDOM_INPUTS, |number| {
         let mut out = [0; 10];
-        let next = host_leaves::write_uvarint(&mut out, 0, number);
-        let width = host_leaves::uvarint_width(number);
+        let next = port::rlc2_write_uvarint(&mut out, 0, number);
+        let width = port::rlc2_uvarint_width(number);
         expected.clear();
         original::write_uvarint(number, &mut expected);
         let length = expected.len();
@@ -31,11 +30,11 @@ pub fn signed(seed: u64) -> Tally {
     let mut bytes = Vec::new();
     numbers::all(seed, RANDOM_INPUTS, |number| {
         for value in [number as i64, (number as i64).wrapping_neg()] {
-            let word = host_leaves::zigzag(value);
+            let word = port::rlc2_zigzag(value);
             bytes.clear();
             original::write_ivarint(value, &mut bytes);
             let expected = original::uvarint(&bytes).map(|(word, _)| (word, value));
-            tally.same(Ok((word, host_leaves::unzigzag(word))), expected, || {
+            tally.same(Ok((word, port::rlc2_unzigzag(word))), expected, || {
                 value.to_string()
             });
         }
@@ -55,7 +54,7 @@ pub fn room(seed: u64) -> Tally {
             _ => random.below(lent.len() + 3),
         };
         let mut out = lent.clone();
-        let next = host_leaves::write_uvarint(&mut out, at, number);
+        let next = port::rlc2_write_uvarint(&mut out, at, number);
         tally.same((next, out), written_at(&lent, at, number), || {
             format!("{number} at {at} of {} bytes", lent.len())
         });
@@ -85,7 +84,7 @@ pub fn many(seed: u64) -> Tally {
         let list: Vec<u64> = (0..random.below(12)).map(|_| random.number()).collect();
         let lent = random.some_bytes(80);
         let mut out = lent.clone();
-        let length = host_leaves::write_all(&list, &mut out);
+        let length = port::rlc2_write_all(&list, &mut out);
         tally.same((length, out), written(&list, &lent), || {
             format!("{list:?} into {}", hex(&lent))
         });

@@ -2,7 +2,7 @@
 
 use super::texts::{Script, text};
 use crate::random::Random;
-use original::tree::{Program, Row};
+use original::tree::{self, Program, Row, counted};
 use std::ops::Range;
 
 /// Titles of one scene, and scenes of one act.
@@ -44,10 +44,10 @@ pub fn strings(seed: u64, count: usize) -> Program {
 fn scene(random: &mut Random, numbers: Range<usize>, distinct: usize) -> Row {
     let first = numbers.start;
     let mut constants: Vec<Row> = numbers.map(|number| title(number % distinct)).collect();
-    constants.extend([parts(8, &["show"]), parts(8, &["wait"])]);
+    constants.extend([tree::strings(8, &["show"]), tree::strings(8, &["wait"])]);
     constants.push(number(2, (first as f64).sqrt().to_bits()));
     constants.extend((0..6).map(|_| number(1, random.below(100_000) as u64)));
-    let mark = parts(17, &["Cue", "Go"]);
+    let mark = tree::strings(17, &["Cue", "Go"]);
     constants.push(Row {
         parts: vec![b"Cue".to_vec()],
         ..counted(
@@ -76,7 +76,7 @@ fn title(number: usize) -> Row {
         Script::Latin,
         Script::Cyrillic,
     ]);
-    parts(6, &[&(begin + &text(&mut random, script, length))])
+    tree::strings(6, &[&(begin + &text(&mut random, script, length))])
 }
 
 fn function(random: &mut Random, name: String, code: usize, constants: Vec<Row>) -> Row {
@@ -120,31 +120,10 @@ fn starts(random: &mut Random, count: usize) -> Vec<u32> {
 fn field(name: &str, value: Row) -> Row {
     Row {
         below: vec![value],
-        ..parts(33, &[name])
+        ..tree::strings(33, &[name])
     }
 }
 
 fn number(tag: u64, word: u64) -> Row {
-    Row {
-        tag,
-        words: vec![word],
-        ..Row::default()
-    }
-}
-
-fn parts(tag: u64, texts: &[&str]) -> Row {
-    Row {
-        tag,
-        parts: texts.iter().map(|text| text.as_bytes().to_vec()).collect(),
-        ..Row::default()
-    }
-}
-
-fn counted(tag: u64, below: Vec<Row>) -> Row {
-    Row {
-        tag,
-        words: vec![below.len() as u64],
-        below,
-        ..Row::default()
-    }
+    tree::numbers(tag, &[word])
 }

@@ -2,7 +2,7 @@
 
 use super::texts;
 use crate::random::Random;
-use original::tree::{Program, Row};
+use original::tree::{Program, Row, counted};
 
 /// Names lists, each with its names; a name that is not UTF-8 is none in the Rust.
 pub const NAME_LISTS: [(&[u8], &[&str]); 6] = [
@@ -384,10 +384,6 @@ fn row(tag: u64, words: Vec<u64>, below: Vec<Row>) -> Row {
         below,
         ..Row::default()
     }
-}
-
-fn counted(tag: u64, below: Vec<Row>) -> Row {
-    row(tag, vec![below.len() as u64], below)
 }
 
 fn parts(tag: u64, parts: Vec<Vec<u8>>) -> Row {

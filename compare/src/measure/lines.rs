@@ -4,7 +4,6 @@ use super::measure;
 use crate::inputs::texts::{Script, text};
 use crate::random::Random;
 use original::LineIndex;
-use port::host_tables;
 use std::hint::black_box;
 
 const TEXT: usize = 1_000_000;
@@ -18,14 +17,14 @@ pub fn indexing(seed: u64) {
     let mut starts = vec![0; original.line_starts().len()];
     let mut answer = [0; 2];
     assert_eq!(
-        host_tables::line_starts(text.as_bytes(), &mut starts, &mut answer),
+        port::rlc2_line_starts(text.as_bytes(), &mut starts, &mut answer),
         0
     );
     assert_eq!(starts, original.line_starts());
     measure(
         &format!("line starts of {TEXT} bytes, {} lines", starts.len()),
         || {
-            black_box(host_tables::line_starts(
+            black_box(port::rlc2_line_starts(
                 black_box(text.as_bytes()),
                 &mut starts,
                 &mut answer,
@@ -61,11 +60,7 @@ pub fn finding(seed: u64) {
             &format!("{QUERIES} line queries, {count} starts"),
             || {
                 for &offset in &offsets {
-                    black_box(host_tables::line_col(
-                        black_box(&starts),
-                        offset,
-                        &mut answer,
-                    ));
+                    black_box(port::rlc2_line_col(black_box(&starts), offset, &mut answer));
                 }
             },
             || {

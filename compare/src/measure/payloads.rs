@@ -5,16 +5,16 @@ use super::loads::{Load, growing, natives, strings_load};
 use crate::inputs::loads::NATIVES;
 use original::native::Module;
 use original::{Chunk, LineIndex};
-use port::host_tables::{self, Read};
+use port::ReadCall;
 
 /// The Rust reads; what it made is dropped outside of the measured time.
 pub fn read(seed: u64) {
-    run(seed, host_tables::deserialize, rust_read);
+    run(seed, port::rlc2_deserialize, rust_read);
 }
 
 /// The Rust reads, writes, and compares the writing with the payload; what it made is dropped as above.
 pub fn check(seed: u64) {
-    run(seed, host_tables::house_check, |payload, natives| {
+    run(seed, port::rlc2_house_check_tables, |payload, natives| {
         let (chunk, lines) = rust_read(payload, natives);
         let written = original::serialize_payload(&chunk, lines.as_ref());
         assert!(written == payload);
@@ -26,7 +26,7 @@ fn rust_read(payload: &[u8], natives: &Module) -> (Chunk, Option<LineIndex>) {
     original::deserialize_payload(payload, natives).expect("a payload that reads")
 }
 
-fn run<T>(seed: u64, ours: Read, original: impl Fn(&[u8], &Module) -> T) {
+fn run<T>(seed: u64, ours: ReadCall, original: impl Fn(&[u8], &Module) -> T) {
     println!(
         "{:<40} {:>9} {:>9} {:>9} {:>13}",
         "", "ours, ms", "Rust, ms", "ours/Rust", "ours, ns/byte"
@@ -40,7 +40,7 @@ fn run<T>(seed: u64, ours: Read, original: impl Fn(&[u8], &Module) -> T) {
 }
 
 /// Prints the times of a load; the nanoseconds that ours takes for a byte.
-fn measure<T>(load: &Load, ours: Read, original: &impl Fn(&[u8], &Module) -> T) -> f64 {
+fn measure<T>(load: &Load, ours: ReadCall, original: &impl Fn(&[u8], &Module) -> T) -> f64 {
     let natives = natives();
     let mut lent = load.tables.clone();
     let mut answer = [0; 9];

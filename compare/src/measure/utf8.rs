@@ -3,7 +3,6 @@
 use super::measure;
 use crate::inputs::texts::{Script, text};
 use crate::random::Random;
-use port::host;
 use std::hint::black_box;
 use std::str::from_utf8;
 
@@ -13,11 +12,11 @@ pub fn testing(seed: u64) {
         for length in [32, 256, 4096, 65536] {
             let text = text(&mut random, script, length);
             let bytes = text.as_bytes();
-            assert_eq!(host::is_utf8(bytes), 1);
+            assert_eq!(port::rlc2_is_utf8(bytes), 1);
             measure(
                 &format!("UTF-8 test, {script:?}, {length} bytes"),
                 || {
-                    black_box(host::is_utf8(black_box(bytes)));
+                    black_box(port::rlc2_is_utf8(black_box(bytes)));
                 },
                 || {
                     black_box(from_utf8(black_box(bytes)).is_ok());

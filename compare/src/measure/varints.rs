@@ -3,7 +3,6 @@
 use super::measure;
 use crate::inputs::numbers::of_width;
 use crate::random::Random;
-use port::host_leaves;
 use std::hint::black_box;
 
 const COUNT: usize = 10_000;
@@ -14,12 +13,12 @@ pub fn reading(seed: u64) {
         let mut ours = vec![0; COUNT];
         let mut original = Vec::with_capacity(COUNT);
         original::read_uvarints(&bytes, &mut original);
-        assert_eq!(host_leaves::read_all(&bytes, &mut ours), COUNT);
+        assert_eq!(port::rlc2_read_all(&bytes, &mut ours), COUNT);
         assert_eq!(ours, original);
         measure(
             &format!("read {COUNT} varints, {kind}"),
             || {
-                black_box(host_leaves::read_all(black_box(&bytes), &mut ours));
+                black_box(port::rlc2_read_all(black_box(&bytes), &mut ours));
             },
             || {
                 original.clear();
@@ -34,12 +33,12 @@ pub fn writing(seed: u64) {
         let mut original = Vec::with_capacity(10 * COUNT);
         original::write_uvarints(&numbers, &mut original);
         let mut ours = vec![0; original.len()];
-        assert_eq!(host_leaves::write_all(&numbers, &mut ours), original.len());
+        assert_eq!(port::rlc2_write_all(&numbers, &mut ours), original.len());
         assert_eq!(ours, original);
         measure(
             &format!("write {COUNT} varints, {kind}"),
             || {
-                black_box(host_leaves::write_all(black_box(&numbers), &mut ours));
+                black_box(port::rlc2_write_all(black_box(&numbers), &mut ours));
             },
             || {
                 original.clear();

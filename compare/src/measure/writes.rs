@@ -3,7 +3,7 @@
 use super::in_turn;
 use super::loads::{Load, growing, growing_of_few, strings_load};
 use crate::document::Program;
-use port::host_tables;
+use crate::ours;
 use std::collections::HashMap;
 
 /// With distinct strings the pool's search counts, with few distinct ones it does not.
@@ -92,17 +92,7 @@ impl<'a> Call<'a> {
     }
 
     fn run(&mut self, out: &mut [u8], expected: u64) {
-        let program = self.program;
-        let number = host_tables::serialize(
-            program.store,
-            &program.counts.words(),
-            program.rows,
-            program.spans,
-            program.starts,
-            &mut self.pool,
-            out,
-            &mut [0; 2],
-        );
+        let number = ours::serialize(self.program, &mut self.pool, out, &mut [0; 2]);
         assert_eq!(number, expected);
     }
 }

@@ -6,7 +6,7 @@ use crate::format::grouped;
 use crate::progress::with_progress;
 use crate::style::Style;
 use crate::{Outcome, complain, opened};
-use rlc2::{Read, Refusal, Sizes, Tables, tag_name};
+use rlc2::{Read, Refusal, Tables, tag_name};
 use std::collections::BTreeMap;
 use std::io::{self, Write};
 
@@ -57,7 +57,7 @@ fn write_counts(
         write_line(out, "line starts", index.starts.len())?;
         writeln!(out, "  of {:?}", program.text(index.name))?;
     }
-    write_line(out, "bytes of tables", needed(read).bytes())?;
+    write_line(out, "bytes of tables", read.sizes().bytes())?;
     match check {
         Ok(()) => writeln!(out, "house-written"),
         Err(refusal) => writeln!(out, "not house-written ({refusal})"),
@@ -99,17 +99,4 @@ fn runs(read: &Read) -> usize {
             here.chunk_by(|a, b| a == b).count()
         })
         .sum()
-}
-
-/// The smallest tables that hold the payload.
-fn needed(read: &Read) -> Sizes {
-    Sizes {
-        rows: read.program.rows.len(),
-        spans: read.program.spans.len(),
-        starts: read
-            .program
-            .line_index
-            .map_or(0, |index| index.starts.len()),
-        strings: read.strings.len(),
-    }
 }
