@@ -5,7 +5,8 @@ use native.Mathlib.Omega.{arith}
 use borrow.Author.Needs.{needs}
 use Rattle.emit.specs.Laws.Emit.{emitted-then, emitted-as, emitted-none, emitted-long, emitted-ready}
 use Rattle.row_layout.specs.Layout.{firstForm, secondForm, secondWord, underForm, countWord}
-use Rattle.write_rows.specs.Laws.Walk.{item-as, count-yes, count-no, second-word-low}
+use Rattle.row_layout.specs.Laws.Layout.{second-word-low}
+use Rattle.write_rows.specs.Laws.Walk.{item-as, count-yes, count-no}
 use Rattle.write_rows.specs.Walk.{rowWord, itemsBytes}
 use Rattle.write_rows.proofs.write_items.Statement.{statement}
 use Rattle.write_rows.proofs.write_items.Tie as tie

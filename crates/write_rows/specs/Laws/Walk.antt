@@ -10,13 +10,11 @@ use lib.Seq.{getD-take, getD-drop}
 use borrow.Author.Tests.{le-leb, lt-leb, eq-eqb, ne-eqb, lt-ltb, le-ltb, ltb-true, ltb-false}
 use Rattle.varint.specs.Uleb128.{uleb128}
 use Rattle.payload.specs.Choice.{if_then_else_}
-use Rattle.payload.specs.Rows.{kindWidth}
-use Rattle.payload.specs.Shapes.{ItemKind}
 use Rattle.payload.specs.Sound.{spansOf}
 use Rattle.payload.specs.Spans.{Span}
 use Rattle.emit.specs.Emit.{output, emit, outputLimit, stopped, Ready, Emitted}
 use Rattle.emit.specs.Laws.Emit.{Emitting, emitted-then, emitted-as, emitted-none, emitted-long, emitting-start, emitting-next, emitting-end}
-use Rattle.row_layout.specs.Layout.{afterFirst, secondWord, underForm}
+use Rattle.row_layout.specs.Layout.{underForm}
 use Rattle.write_code.specs.Runs.{Positions}
 use Rattle.write_rows.specs.Reached.{Writable, Reached}
 use Rattle.write_rows.specs.Walk.{Held, held, rowCount, rowWord, itemBytes, itemsBytes, headBytes, rowsUnder, rowSpans, spanAfter, codeLength, Walked, walked, andWalk, walkTimes, walkRow, walkNext, walk}
@@ -47,23 +45,6 @@ is-yes {A} a b {u} {u′} {n} e h = rw (← e, eq-eqb u n h)
 pub is-no : {A : Type 0} (a b : A) (n : ℕ) {u u′ : ℕ} → u ≡ u′ → (u ≡ n → ⊥) → b ≡ if_then_else_ (eqb u′ n) a b
 unfolding if_then_else_
 is-no {A} a b n {u} {u′} e h = rw (← e, ne-eqb u n h)
-
-kind-width-low : (k : ItemKind) → kindWidth k ≤ 2
-unfolding kindWidth
-kind-width-low (ItemKind.number n) = omega arith
-kind-width-low ItemKind.string = omega arith
-kind-width-low ItemKind.nativeName = omega arith
-kind-width-low ItemKind.recordName = omega arith
-kind-width-low ItemKind.code = omega arith
-
-after-first-low : (ks : List ItemKind) → afterFirst ks ≤ 3
-unfolding afterFirst
-after-first-low [] = omega arith
-after-first-low (k ∷ ks) = let w = kind-width-low k in omega arith
-
-pub second-word-low : (t : ℕ) → secondWord t ≤ 3
-unfolding secondWord
-second-word-low t = after-first-low _
 
 pub positions-part : (ws : List ℕ) (n a : ℕ) → Positions ws → Positions (take n (drop a ws))
 positions-part ws n a h k = go (ltb k n) refl
