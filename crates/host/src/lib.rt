@@ -7,8 +7,7 @@ ghost use Rattle.slices.specs.LittleEndian.{toLeBytes};
 ghost use Rattle.varint.specs.Varint.{varintOf};
 ghost use Rattle.utf8.specs.Utf8.{isUtf8};
 ghost use Rattle.payload.specs.House.{house};
-ghost use Rattle.payload.specs.Tables.{readAnswer};
-ghost use Rattle.house.specs.Demand3.{numberOf};
+ghost use Rattle.payload.specs.Tables.{readAnswer, readNumber};
 ghost use Rattle.host.specs.Host.{flag, usedOf, numberAfter, checkCapacities};
 use payload::Read;
 use varint::Varint;
@@ -58,7 +57,7 @@ pub extern "C" fn rlc2_uvarint(bytes: &[u8], number: &mut [u8]) -> usize
 // refusal's number.
 #[no_mangle]
 pub extern "C" fn rlc2_house_check(payload: &[u8], names: &[u8]) -> u64
-    ensures { λ r. ⌜ r ≡ numberOf (readAnswer (house checkCapacities (now (names .entry)) (now (payload .entry)))) ⌝ }
+    ensures { λ r. ⌜ r ≡ readNumber (readAnswer (house checkCapacities (now (names .entry)) (now (payload .entry)))) ⌝ }
 {
     let mut rows = [0u64; 2560];
     let mut spans = [0u64; 2048];

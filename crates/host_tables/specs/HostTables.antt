@@ -9,7 +9,7 @@ use Rattle.line_index.specs.declared.LineCol.{LineCol}
 use Rattle.line_index.specs.LineCol.{numberOf, placeOf, lineOf, columnOf}
 use Rattle.payload.specs.Reader.{Result}
 use Rattle.payload.specs.Reading.{Payload}
-use Rattle.payload.specs.Tables.{Leaves, readAnswer}
+use Rattle.payload.specs.Tables.{Leaves, readAnswer, readNumber}
 use Rattle.payload.specs.declared.Read.{Read}
 use Rattle.payload.specs.declared.Read.the-variants as read
 
@@ -22,12 +22,7 @@ lineStartsFields (Refused number place) = number ∷ place ∷ []
 abbrev pub lineColFields : LineCol → List ℕ
 lineColFields found = numberOf found ∷ placeOf found ∷ lineOf found ∷ columnOf found ∷ []
 
--- of a read or a check: 0, or the refusal's number
-abbrev pub readNumber : Read → ℕ
-readNumber (read.Accepted counts) = 0
-readNumber (read.Refused number place) = number
-
--- number, bytes consumed (or place), used rows, spans, starts and strings, line flag, the name's offset and length
+-- of a read or a check: number, bytes consumed (or place), used rows, spans, starts and strings, line flag, the name's offset and length
 abbrev pub readFields : Read → List ℕ
 readFields (read.Accepted c) = 0 ∷ c .consumed ∷ c .rows ∷ c .spans ∷ c .starts ∷ c .strings ∷ c .flag ∷ c .«name_o» ∷ c .«name_n» ∷ []
 readFields (read.Refused number place) = number ∷ place ∷ 0 ∷ 0 ∷ 0 ∷ 0 ∷ 0 ∷ 0 ∷ 0 ∷ []

@@ -20,3 +20,4 @@ pub mod House
 pub mod Demand3
 pub mod ProofTable
 pub mod Mistakes
+pub mod Tables

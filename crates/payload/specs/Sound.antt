@@ -22,6 +22,10 @@ pub record Tables : Type 0 where
   pub nameOffset : ℕ
   pub nameLength : ℕ
 
+-- tables of which every word is used
+abbrev pub tables : List ℕ → List ℕ → List ℕ → List ℕ → ℕ → ℕ → ℕ → Tables
+tables store rows spans starts flag o n = record { store = store; rows = rows; spans = spans; starts = starts; flag = flag; nameOffset = o; nameLength = n }
+
 ---- one span for each byte of code, in row order
 
 -- a span table's words, two for each span

@@ -89,6 +89,11 @@ readAnswer (ok u s) = read.Accepted (record {
 })
 readAnswer (refused n p) = read.Refused n p
 
+-- 0, or the refusal's number
+abbrev pub readNumber : Read → ℕ
+readNumber (read.Accepted counts) = 0
+readNumber (read.Refused number place) = number
+
 unfoldable pub usedRows : Result Payload → List ℕ
 usedRows (ok u s) = rowTable (single (u .script .outer))
 usedRows (refused n p) = []

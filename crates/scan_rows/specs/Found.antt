@@ -5,7 +5,6 @@ use Prim.Native.Nat.{_*_, ℕ}
 use lib.ListN.{length}
 use Rattle.payload.specs.Reader.{Part, Result, State, ok, refused}
 use Rattle.payload.specs.Rows.{rowWidth}
-use Rattle.payload.specs.Sound.{Tables}
 use Rattle.payload.specs.Trees.{Script}
 use Rattle.scan_rows.specs.Row.{atRow, rowCount}
 use Rattle.scan_rows.specs.Under.{Skip}
@@ -24,9 +23,6 @@ Found {A} rows n i (Bad k) x = x ≡ refused 17 k
 -- a scan that began at row i, and passed n rows with those under them, gave x
 pub record Scanned {A : Type 0} (rows : List ℕ) (n i : ℕ) (r : Scan) (x : Result A) : Type 0 where
   pub found : Found rows n i r x
-
-abbrev pub tables : List ℕ → List ℕ → List ℕ → List ℕ → ℕ → ℕ → ℕ → Tables
-tables store rows spans starts flag o n = record { store = store; rows = rows; spans = spans; starts = starts; flag = flag; nameOffset = o; nameLength = n }
 
 abbrev pub Answer : Soundness → Result (Script Part) → Type 0
 Answer Sound x = (u : Script Part) × (s : State) × (x ≡ ok u s)

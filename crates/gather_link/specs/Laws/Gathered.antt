@@ -7,6 +7,7 @@ use Prim.Native.Nat.{ℕ, _/_, _≤_, _<_}
 use native.Mathlib.Omega.{arith}
 use lib.ListN.{length, length-map}
 use Rattle.payload.specs.Choice.{if_then_else_}
+use Rattle.payload.specs.Laws.House.{size-forget}
 use Rattle.payload.specs.Laws.SoundTables.{Kinded, kinded, row-table-width, InLine, sound-holds, sound-script}
 use Rattle.payload.specs.Reader.{Part, State, ok}
 use Rattle.payload.specs.Rows.{rowTable, rowWidth}
@@ -22,7 +23,7 @@ use Rattle.pool_index.specs.Laws.Distinct.{interned-distinct}
 use Rattle.pool_index.specs.Strings.{poolStrings, distinct}
 use Rattle.gather_link.specs.Laws.Parts.{pool-bytes, pool-strings}
 use Rattle.gather_link.specs.Laws.Row.{part-is}
-use Rattle.gather_link.specs.Laws.Rows.{size-forget, trees-parts, trees-named}
+use Rattle.gather_link.specs.Laws.Rows.{trees-parts, trees-named}
 use Rattle.gather.specs.declared.Gathered.the-variants as answer
 
 -- the pool has as many strings as parts

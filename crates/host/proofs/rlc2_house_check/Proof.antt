@@ -6,9 +6,8 @@ use lib.ListN.{length, length-replicate, replicate}
 use borrow.Author.Needs.{needs}
 use Rattle.payload.specs.House.{house}
 use Rattle.payload.specs.Reading.{Capacities}
-use Rattle.payload.specs.Tables.{Leaves, capacitiesOf, readAnswer}
+use Rattle.payload.specs.Tables.{Leaves, capacitiesOf, readAnswer, readNumber}
 use Rattle.payload.specs.declared.Read.{Read}
-use Rattle.house.specs.Demand3.{numberOf}
 use Rattle.host.specs.Host.{checkCapacities}
 use Rattle.host.proofs.rlc2_house_check.Statement.{statement}
 use Rattle.host.proofs.rlc2_house_check.Tie as tie
@@ -18,10 +17,10 @@ unfolding capacitiesOf
 capacities-are rows spans starts pool a b c d = rw (a, b, c, d)
 
 number-is : (names p rows spans starts pool : List ℕ) {rows′ spans′ starts′ pool′ : List ℕ} {r : Read} → length rows ≡ 2560 → length spans ≡ 2048 → length starts ≡ 512 → length pool ≡ 512
-    → Leaves (house (capacitiesOf (length rows) (length spans) (length starts) (length pool)) names p) rows spans starts pool rows′ spans′ starts′ pool′ r → numberOf r ≡ numberOf (readAnswer (house checkCapacities names p))
-number-is names p rows spans starts pool a b c d h = ap numberOf (h .answer) ∙ ap (λ (k : Capacities). numberOf (readAnswer (house k names p))) (capacities-are rows spans starts pool a b c d)
+    → Leaves (house (capacitiesOf (length rows) (length spans) (length starts) (length pool)) names p) rows spans starts pool rows′ spans′ starts′ pool′ r → readNumber r ≡ readNumber (readAnswer (house checkCapacities names p))
+number-is names p rows spans starts pool a b c d h = ap readNumber (h .answer) ∙ ap (λ (k : Capacities). readNumber (readAnswer (house k names p))) (capacities-are rows spans starts pool a b c d)
 
-said : (c : tie.After-house-check) → numberOf (c .house-check .result) ≡ numberOf (readAnswer (house checkCapacities (c .before .before .before .before .before .before .before .args .names .now) (c .before .before .before .before .before .before .before .args .payload .now)))
+said : (c : tie.After-house-check) → readNumber (c .house-check .result) ≡ readNumber (readAnswer (house checkCapacities (c .before .before .before .before .before .before .before .args .names .now) (c .before .before .before .before .before .before .before .args .payload .now)))
 said c = number-is (c .before .before .before .before .before .before .before .args .names .now) (c .before .before .before .before .before .before .before .args .payload .now) (replicate 2560 0) (replicate 2048 0) (replicate 512 0) (replicate 512 0) (length-replicate {A = ℕ} 2560 0) (length-replicate {A = ℕ} 2048 0) (length-replicate {A = ℕ} 512 0) (length-replicate {A = ℕ} 512 0) (c .house-check .ensures)
 
 slice-aggregate-house-check : tie.Need-slice-aggregate-house-check
@@ -46,10 +45,10 @@ enum-known-number : tie.Need-enum-known-number
 enum-known-number c = search needs
 
 returns : tie.Need-returns
-returns c = ap numberOf (sym (c .enum-told .given .1)) ∙ said (c .before .before .before .before .before .before)
+returns c = ap readNumber (sym (c .enum-told .given .1)) ∙ said (c .before .before .before .before .before .before)
 
 returns-2 : tie.Need-returns-2
-returns-2 c = ap numberOf (sym (c .before .number .given .1)) ∙ said (c .before .before .before .before .before .before .before)
+returns-2 c = ap readNumber (sym (c .before .number .given .1)) ∙ said (c .before .before .before .before .before .before .before)
 
 pub rlc2-house-check-spec : {M : Type 1} → statement M
 rlc2-house-check-spec =

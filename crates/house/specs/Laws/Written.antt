@@ -24,11 +24,12 @@ use Rattle.payload.specs.Laws.Pool.{and-both, and-left, and-right, false≢true
 use Rattle.payload.specs.Laws.ReadSound.{ReadIs, read-is}
 use Rattle.payload.specs.Laws.Rules.{SoundScript}
 use Rattle.payload.specs.Laws.SoundTables.{holds-sound, obeyed-width}
+use Rattle.payload.specs.Laws.Tables.{length-partsWords}
 use Rattle.payload.specs.Names.{isListed}
 use Rattle.payload.specs.Reader.{Part, Result, State, ok, refused, start}
 use Rattle.payload.specs.Reading.{Capacities, Payload, readPayload}
 use Rattle.payload.specs.Rows.{itemsSpans, partWords, rowTable, rowWidth, spanTable}
-use Rattle.payload.specs.Sound.{Tables, isNil, scriptOf}
+use Rattle.payload.specs.Sound.{Tables, isNil, scriptOf, tables}
 use Rattle.payload.specs.Spans.{Span, smallSpans}
 use Rattle.payload.specs.Tables.{capacitiesOf, lineFlag, lineName, lineStarts, partsWords, readAnswer, reading, sizeLimit, spanWords, tablesOf, usedPool, usedRows, usedSpans, usedStarts}
 use Rattle.payload.specs.Trees.{Item, LineIndex, Script, Trees, code, forgetItem, forgetItems, forgetLine, forgetNode, forgetScript, forgetTrees, nativeName, nil, node, number, recordName, single, spanCount, spanItem, spanItems, startCount, string}
@@ -45,7 +46,7 @@ use Rattle.pool_check.specs.Order.{Met, meetAll}
 use Rattle.house_link.specs.Laws.PoolEntries.{Entries, gathered-entries}
 use Rattle.house_link.specs.Laws.PoolOrder.{Rising, interned-order, order-interned, pool-rises}
 use Rattle.house_link.specs.Laws.PoolRead.{read-pool-interned, read-strings}
-use Rattle.house.specs.Written.{AcceptedRead, allPositions, isWriting, poolWords, wholeTables}
+use Rattle.house.specs.Written.{AcceptedRead, allPositions, isWriting, poolWords}
 
 ---- the words of spans
 
@@ -69,11 +70,6 @@ unfolding allItems forgetTrees spanTable spanCount
 trees-spans nil h = refl
 trees-spans (node t is ks ts) h = omega (arith, length-append (itemsSpans is) (spanTable ks ++ spanTable ts), length-append (spanTable ks) (spanTable ts),
     items-spans is (and-left _ _ h), trees-spans ks (and-left _ _ (and-right _ _ h)), trees-spans ts (and-right _ _ (and-right _ _ h)))
-
-parts-words : (xs : List Part) → length (partsWords xs) ≡ 2 * length xs
-unfolding partsWords partWords
-parts-words [] = refl
-parts-words (x ∷ xs) = let h = parts-words xs in omega arith
 
 strings-read : (p : List ℕ) (xs : List Part) → TextsIn p xs → poolStrings p (partsWords xs) ≡ bytesOf xs
 unfolding poolStrings partsWords partWords bytesAt TextsIn
@@ -103,17 +99,17 @@ start-count u = go (u .script .line)
     go (some x) = unfold startCount forgetLine lineStarts in refl
 
 abbrev pub readTables : List ℕ → Counts → List ℕ → List ℕ → List ℕ → Tables
-readTables p n rows spans starts = wholeTables p (take (5 * n .rows) rows) (take (2 * n .spans) spans) (take (n .starts) starts) (n .flag) (n .«name_o») (n .«name_n»)
+readTables p n rows spans starts = tables p (take (5 * n .rows) rows) (take (2 * n .spans) spans) (take (n .starts) starts) (n .flag) (n .«name_o») (n .«name_n»)
 
 -- the same as they are lent, from word 0 on
 abbrev pub lentTables : List ℕ → Counts → List ℕ → List ℕ → List ℕ → Tables
-lentTables p n rows spans starts = wholeTables p (take (5 * n .rows - 0) rows) (take (2 * n .spans - 0) spans) (take (n .starts - 0) starts) (n .flag) (n .«name_o») (n .«name_n»)
+lentTables p n rows spans starts = tables p (take (5 * n .rows - 0) rows) (take (2 * n .spans - 0) spans) (take (n .starts - 0) starts) (n .flag) (n .«name_o») (n .«name_n»)
 
 pub lent-words : (k : ℕ) (l : List ℕ) → take (k - 0) l ≡ take k l
 lent-words k l = let e : k - 0 ≡ k = omega arith in rw e
 
 pub lent-tables : (p : List ℕ) (n : Counts) (rows spans starts : List ℕ) → lentTables p n rows spans starts ≡ readTables p n rows spans starts
-lent-tables p n rows spans starts = λ i. wholeTables p (lent-words (5 * n .rows) rows i) (lent-words (2 * n .spans) spans i) (lent-words (n .starts) starts i) (n .flag) (n .«name_o») (n .«name_n»)
+lent-tables p n rows spans starts = λ i. tables p (lent-words (5 * n .rows) rows i) (lent-words (2 * n .spans) spans i) (lent-words (n .starts) starts i) (n .flag) (n .«name_o») (n .«name_n»)
 
 pub lent-met : (p : List ℕ) (n : Counts) (rows pool : List ℕ) {r : ℕ}
     → Met (take (2 * n .strings - 0) pool) 0 (rowsParts p (length (take (5 * n .rows - 0) rows) / rowWidth) (take (5 * n .rows - 0) rows) ++ nameParts p (n .flag) (n .«name_o») (n .«name_n»)) r
@@ -161,7 +157,7 @@ module _ {names p rows spans starts pool : List ℕ} {n : Counts} (h : AcceptedR
       let r : take (5 * n .rows) rows ≡ rowTable ts = used-words rows (rowTable ts) (5 * n .rows) (h .left .rows-are ∙ ap (λ (x : Result Payload). padTo (length rows) (usedRows x)) e) (omega (arith, obeyed-width 32 ts rules, f .rows-are)) in
       let q : take (2 * n .spans) spans ≡ spanWords (spanTable ts) = used-words spans (spanWords (spanTable ts)) (2 * n .spans) (h .left .spans-are ∙ ap (λ (x : Result Payload). padTo (length spans) (usedSpans x)) e) (omega (arith, length-span-words (spanTable ts), trees-spans ts read-items, counted)) in
       let t : take (n .starts) starts ≡ lineStarts (u .script .line) = used-words starts (lineStarts (u .script .line)) (n .starts) (h .left .starts-are ∙ ap (λ (x : Result Payload). padTo (length starts) (usedStarts x)) e) (sym starts-n) in
-      let v : take (2 * n .strings) pool ≡ partsWords (u .pool) = used-words pool (partsWords (u .pool)) (2 * n .strings) (h .left .pool-is ∙ ap (λ (x : Result Payload). padTo (length pool) (usedPool x)) e) (omega (arith, parts-words (u .pool))) in
+      let v : take (2 * n .strings) pool ≡ partsWords (u .pool) = used-words pool (partsWords (u .pool)) (2 * n .strings) (h .left .pool-is ∙ ap (λ (x : Result Payload). padTo (length pool) (usedPool x)) e) (omega (arith, length-partsWords (u .pool))) in
       record {
         u = u;
         s = s;
@@ -172,7 +168,7 @@ module _ {names p rows spans starts pool : List ℕ} {n : Counts} (h : AcceptedR
         consumed = ap (λ (m : Counts). m .consumed) (a .3);
         strings = strings-n;
         spans-are = q;
-        tables-are = λ i. wholeTables p (r i) (q i) (t i) (a .3 i .flag) (a .3 i .«name_o») (a .3 i .«name_n»);
+        tables-are = λ i. tables p (r i) (q i) (t i) (a .3 i .flag) (a .3 i .«name_o») (a .3 i .«name_n»);
         pool-is = v;
         rows-fit = omega (arith, f .rows-are, f .rows-fit);
         spans-fit = omega (arith, f .spans-are, f .spans-fit);

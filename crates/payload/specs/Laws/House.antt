@@ -185,7 +185,8 @@ pub is-named : (s : Script (List ℕ)) → Named s → allNamed s ≡ true
 unfolding allNamed Named
 is-named s e = eq-eqb _ _ (named-all (poolOf s) (single (s .outer)) e)
 
-size-forget : (ts : Trees Part) → size (forgetTrees ts) ≡ size ts
+-- the places of parts do not count
+pub size-forget : (ts : Trees Part) → size (forgetTrees ts) ≡ size ts
 unfolding size forgetTrees
 size-forget nil = refl
 size-forget (node t is ks ts) = rw (size-forget ks, size-forget ts)

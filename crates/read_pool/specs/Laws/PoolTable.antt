@@ -7,16 +7,12 @@ use lib.ListN.{getD, length, take, drop, set}
 use Rattle.slices.specs.Put.{put}
 use Rattle.slices.specs.Laws.Put.{put-put, put-last, put-cons, run-put}
 use Rattle.payload.specs.Laws.ScanWritten.{InStore}
+use Rattle.payload.specs.Laws.Tables.{length-partsWords}
 use Rattle.payload.specs.Reader.{Part}
 use Rattle.payload.specs.Rows.{partWords}
 use Rattle.payload.specs.Tables.{partsWords}
 use Rattle.read_items.specs.Context.{partOf, partsOf, PoolFits}
 use Rattle.read_items.specs.Laws.Context.{length-part}
-
-pub length-partsWords : (bs : List Part) → length (partsWords bs) ≡ 2 * length bs
-unfolding partsWords partWords
-length-partsWords [] = refl
-length-partsWords (b ∷ bs) = let h = length-partsWords bs in omega arith
 
 pub partsWords-append : (a b : List Part) → partsWords (a ++ b) ≡ partsWords a ++ partsWords b
 unfolding partsWords partWords

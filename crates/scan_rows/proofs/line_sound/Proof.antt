@@ -4,7 +4,7 @@ use mathlib.Core.Path.{sym, _∙_}
 use borrow.Author.Needs.{needs}
 use borrow.Author.Tests.{not-true}
 use Rattle.payload.specs.Laws.Pool.{false≢true}
-use Rattle.scan_rows.specs.Found.{tables}
+use Rattle.payload.specs.Sound.{tables}
 use Rattle.scan_rows.specs.Laws.Script.{no-line, bad-flag, a-line}
 use Rattle.scan_rows.proofs.line_sound.Statement.{statement}
 use Rattle.scan_rows.proofs.line_sound.Tie as tie

@@ -2,7 +2,7 @@
 use mathlib.Core.Path.{sym, _∙_}
 use borrow.Author.Needs.{needs}
 use borrow.Author.Tests.{not-true, not-false}
-use Rattle.scan_rows.specs.Found.{tables}
+use Rattle.payload.specs.Sound.{tables}
 use Rattle.scan_rows.specs.Laws.Script.{line-alone, answer-bad-row, answer-rows-left, answer-spans, answer-line, answer-sound}
 use Rattle.scan_rows.proofs.scan_tables.Statement.{statement}
 use Rattle.scan_rows.proofs.scan_tables.Tie as tie

@@ -13,12 +13,12 @@ use Rattle.payload.specs.Laws.Pool.{and-both}
 use Rattle.payload.specs.Reader.{Part, _>>=_, _>>_, andThen, ok, pure, refused, start}
 use Rattle.payload.specs.Rows.{rowWidth}
 use Rattle.payload.specs.Scan.{scanOuter, scanValue}
-use Rattle.payload.specs.Sound.{Tables, allStarts, giveNode, isNil, lineOf, lineSound, noMoreRows, scriptOf, soundScript, spansOf, spansSound}
+use Rattle.payload.specs.Sound.{Tables, allStarts, giveNode, isNil, lineOf, lineSound, noMoreRows, scriptOf, soundScript, spansOf, spansSound, tables}
 use Rattle.payload.specs.Spans.{smallSpans}
 use Rattle.payload.specs.Trees.{Node, Script}
 use Rattle.utf8.specs.Utf8.{isUtf8, partIsUtf8}
 use Rattle.scan_rows.specs.Code.{codeTotal, spansFit}
-use Rattle.scan_rows.specs.Found.{Answers, Scanned, tables}
+use Rattle.scan_rows.specs.Found.{Answers, Scanned}
 use Rattle.scan_rows.specs.Laws.Code.{scanned-code}
 use Rattle.scan_rows.specs.Laws.Found.{bad-of, next-of}
 use Rattle.scan_rows.specs.Laws.Steps.{and-pass, must-pass, pass}
