@@ -42,8 +42,8 @@ struct Placed {
 // Every length is below it: a mark is a length plus a multiple of it.
 const MARK_BASE: u64 = 0x1_0000_0000;
 
-// The length of a part and, above it, the sum of its first and last four bytes. The second word of an entry while strings are gathered: most
-// entries are told from a part by it, without a look at the store, which misses the cache.
+// The length of a part and, above it, the sum of its first and its last four bytes. It is the second word of an entry while strings are
+// gathered: a search tells most entries from a part by it, without a look at the store, which is a cache miss.
 fn mark(store: &[u8], o: usize, n: usize) -> u64
     requires { ⌜ (o + n ≤ length (now store)) × (length (now store) ≤ sizeLimit) ⌝ }
     ensures { λ r. ⌜ r ≡ markOf (bytesAt (now (store .entry)) o n) ⌝ }
@@ -55,7 +55,7 @@ fn mark(store: &[u8], o: usize, n: usize) -> u64
     n as u64 + sum % MARK_BASE * MARK_BASE
 }
 
-// Takes the marks of the first entries away: their lengths are left.
+// Takes the marks of the first `count` entries away: their lengths are left.
 fn unmark(pool: &mut [u64], count: usize)
     requires { ⌜ 2 * count ≤ length (now pool) ⌝ }
     ensures { λ _. ⌜ now (pool .exit) ≡ unmarked count (now (pool .entry)) ⌝ }
@@ -81,6 +81,7 @@ fn entry_is(store: &[u8], entries: &[u64], k: usize, o: usize, n: usize) -> bool
     slices::equal_parts(store, o, store, offset as usize, n)
 }
 
+// The second word of entry k.
 fn mark_at(entries: &[u64], k: usize) -> u64
     requires { ⌜ k < length (now entries) / 2 ⌝ }
     ensures { λ r. ⌜ r ≡ getD (now (entries .entry)) (2 * k + 1) 0 ⌝ }

@@ -20,7 +20,7 @@ use Rattle.gather.specs.Marks.{markBase, fingerprint, markOf, lengthIn, 
 ---- the mark of a part of the store
 
 module _ (s : List ℕ) (o n : ℕ) (h : o + n ≤ length s) where
-  pub part-length : length (bytesAt s o n) ≡ n
+  part-length : length (bytesAt s o n) ≡ n
   unfolding bytesAt
   part-length = length-take-le n (drop o s) (omega (arith, length-drop o s))
 
