@@ -3,15 +3,20 @@
 pub struct Gate {
     seconds: Vec<(String, u64)>,
     verdict: Option<String>,
+    time: Option<String>,
 }
 
 impl Gate {
-    /// The lines `rt: NAME proved (N s)` and `N passed, M failed`.
+    /// The lines `rt: NAME proved (N s)`, `N passed, M failed`, and that of the shell's `time`, where there is one.
     pub fn of(log: &str) -> Gate {
         let verdict = log.lines().rev().find(|line| is_verdict(line));
         Gate {
             seconds: log.lines().filter_map(proved).collect(),
             verdict: verdict.map(str::to_string),
+            time: log
+                .lines()
+                .find_map(|line| line.strip_prefix("real\t"))
+                .map(str::to_string),
         }
     }
 
@@ -25,8 +30,11 @@ impl Gate {
     }
 
     pub fn summary(&self) -> String {
-        let verdict = self.verdict.as_deref();
-        format!("\n`rt ci`: {}.\n", verdict.unwrap_or("no verdict"))
+        let verdict = self.verdict.as_deref().unwrap_or("no verdict");
+        match &self.time {
+            Some(time) => format!("\n`rt ci`: {verdict}, in {time}.\n"),
+            None => format!("\n`rt ci`: {verdict}.\n"),
+        }
     }
 }
 
@@ -53,5 +61,10 @@ mod tests {
         assert_eq!(gate.seconds("other"), None);
         assert_eq!(gate.sum(), 26);
         assert_eq!(gate.summary(), "\n`rt ci`: 153 passed, 0 failed.\n");
+        let timed = Gate::of("153 passed, 0 failed\n\nreal\t16m40.2s\nuser\t30m1.0s\n");
+        assert_eq!(
+            timed.summary(),
+            "\n`rt ci`: 153 passed, 0 failed, in 16m40.2s.\n"
+        );
     }
 }

@@ -71,7 +71,7 @@ const GROWTH: &str = "
 ## Growth
 
 Time against the length of the payload, for growing copies of the script load; both axes double from mark to mark, so that
-time in proportion to length is a line at 45 degrees.
+time in proportion to length rises one mark for each mark.
 
 ![time against length](growth.svg)
 ";
