@@ -34,7 +34,8 @@ module _ (e : Context) (s : reader.State) where
   unfolding readScript _>>=_ andThen
   script-no-chunk f = rw f
 
-  pub script-no-lines : {outer : Node Part} {s₁ : reader.State} {n q : ℕ} → readChunk e s ≡ ok outer s₁ → readLineIndex e s₁ ≡ refused n q → readScript e s ≡ refused n q
+  pub script-no-lines :
+      {outer : Node Part} {s₁ : reader.State} {n q : ℕ} → readChunk e s ≡ ok outer s₁ → readLineIndex e s₁ ≡ refused n q → readScript e s ≡ refused n q
   unfolding readScript _>>=_ andThen
   script-no-lines f g = rw (f, g)
 
@@ -56,17 +57,22 @@ module _ (names : List ℕ) {limits : Limits} {p pool rows rows′ spans spans�
     (ran : Ran oneTree limits p rows rows′ spans spans′ 0 0 s outer (readChunk (context limits p names pool) (stateAt p at 0 0))) where
   pub filled-no-lines : {starts′ : List ℕ} {n q : ℕ} → InContext p pool (limits .starts) (s .at) readLineIndex (stopped n q)
       → Filled (readScript (context limits p names pool) (stateAt p at 0 0)) rows′ spans′ starts′ pool (read.Refused n q)
-  filled-no-lines g = filled-no (script-no-lines (context limits p names pool) (stateAt p at 0 0) (ran .is) (g .reads (capacities limits) names refl .is (s .rows) (s .spans)))
+  filled-no-lines g =
+      filled-no (script-no-lines (context limits p names pool) (stateAt p at 0 0) (ran .is) (g .reads (capacities limits) names refl .is (s .rows) (s .spans)))
 
   module _ (fit : Fit limits p rows spans (record { at = at; rows = 0; spans = 0 }))
       (whole : length pool ≡ 2 * (length pool / 2)) (inside : PoolFits p pool) where
-    pub filled-script : {starts starts′ : List ℕ} {flag o n k next : ℕ} → limits .starts ≤ length starts → Accepted p pool starts starts′ (limits .starts) (s .at) readLineIndex flag o n k next
-        → Filled (readScript (context limits p names pool) (stateAt p at 0 0)) rows′ spans′ starts′ pool
-        (read.Accepted (record { consumed = next; rows = s .rows; spans = s .spans; starts = k; strings = length pool / 2; flag = flag; «name_o» = o; «name_n» = n }))
+    pub filled-script :
+        {starts starts′ : List ℕ} {flag o n k next : ℕ} → limits .starts ≤ length starts →
+        Accepted p pool starts starts′ (limits .starts) (s .at) readLineIndex flag o n k next →
+        Filled (readScript (context limits p names pool) (stateAt p at 0 0)) rows′ spans′ starts′ pool
+        (read.Accepted
+        (record { consumed = next; rows = s .rows; spans = s .spans; starts = k; strings = length pool / 2; flag = flag; «name_o» = o; «name_n» = n }))
     unfolding contextOf readAnswer usedRows usedSpans usedStarts usedPool
     filled-script {starts} room g =
         let words = partsWords-partsOf p pool (length pool / 2) whole inside in
-        rw (script-ok (context limits p names pool) (stateAt p at 0 0) (ran .is) (g .is .reads (capacities limits) names refl .is (s .rows) (s .spans))) (record {
+        rw (script-ok (context limits p names pool) (stateAt p at 0 0) (ran .is) (g .is .reads (capacities limits) names refl .is (s .rows) (s .spans)))
+        (record {
           answer = cc (length-partsOf p pool);
           rows-begin = rw (ran .wrote) (begins-put rows _ _ (omega (arith, ran .size)) (omega (arith, ran .used, fit .room)));
           spans-begin = rw (ran .filled) (begins-put spans _ _ (omega (arith, ran .spanned)) (omega (arith, ran .covered, fit .cover)));

@@ -38,8 +38,10 @@ module _ {limits : Limits} (rows spans starts pool : ℕ) (e : capacities limits
   starts-fit = omega (arith, ap (λ (c : Capacities). c .maxStarts) e)
 
 -- the outer chunk is read into tables of which nothing is used
-pub tables-fit : {limits : Limits} {p : List ℕ} {at : ℕ} (rows spans : List ℕ) (starts pool : ℕ) → capacities limits ≡ capacitiesOf (length rows) (length spans) starts pool → at ≤ length p
-    → Fit limits p rows spans (record { at = at; rows = 0; spans = 0 })
+pub tables-fit :
+    {limits : Limits} {p : List ℕ} {at : ℕ} (rows spans : List ℕ) (starts pool : ℕ) →
+    capacities limits ≡ capacitiesOf (length rows) (length spans) starts pool → at ≤ length p →
+    Fit limits p rows spans (record { at = at; rows = 0; spans = 0 })
 unfolding capacitiesOf
 tables-fit rows spans starts pool e h =
     let r = ap (λ (c : Capacities). c .maxRows) e in
@@ -91,11 +93,12 @@ module _ (c : Capacities) (names p : List ℕ) (h : length p ≤ sizeLimit) wher
 
 ---- the words behind the used ones are cleared
 
-pub cleared : {x : Result Payload} {rows spans starts pool rows₁ spans₁ starts₁ pool₁ rows′ spans′ starts′ pool′ : List ℕ} {r : Read} → Filled x rows₁ spans₁ starts₁ pool₁ r
-    → length rows₁ ≡ length rows → length spans₁ ≡ length spans → length starts₁ ≡ length starts → length pool₁ ≡ length pool
-    → rows′ ≡ zeroFrom (rowWidth * countsOf r .rows) rows₁ → spans′ ≡ zeroFrom (2 * countsOf r .spans) spans₁
-    → starts′ ≡ zeroFrom (countsOf r .starts) starts₁ → pool′ ≡ zeroFrom (2 * countsOf r .strings) pool₁
-    → Leaves x rows spans starts pool rows′ spans′ starts′ pool′ r
+pub cleared :
+    {x : Result Payload} {rows spans starts pool rows₁ spans₁ starts₁ pool₁ rows′ spans′ starts′ pool′ : List ℕ} {r : Read} →
+    Filled x rows₁ spans₁ starts₁ pool₁ r → length rows₁ ≡ length rows → length spans₁ ≡ length spans → length starts₁ ≡ length starts →
+    length pool₁ ≡ length pool → rows′ ≡ zeroFrom (rowWidth * countsOf r .rows) rows₁ → spans′ ≡ zeroFrom (2 * countsOf r .spans) spans₁ →
+    starts′ ≡ zeroFrom (countsOf r .starts) starts₁ → pool′ ≡ zeroFrom (2 * countsOf r .strings) pool₁ →
+    Leaves x rows spans starts pool rows′ spans′ starts′ pool′ r
 cleared f a b c d i j k l = record {
   answer = f .answer;
   rows-are = i ∙ begins-cleared (f .rows-begin) a;

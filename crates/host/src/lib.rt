@@ -63,7 +63,14 @@ pub extern "C" fn rlc2_house_check(payload: &[u8], names: &[u8]) -> u64
     let mut spans = [0u64; 2048];
     let mut starts = [0u32; 512];
     let mut pool = [0u64; 512];
-    match house::house_check(payload, names, &mut rows, &mut spans, &mut starts, &mut pool) {
+    match house::house_check(
+        payload,
+        names,
+        &mut rows,
+        &mut spans,
+        &mut starts,
+        &mut pool,
+    ) {
         Read::Accepted(_) => 0,
         Read::Refused(number, _) => number,
     }

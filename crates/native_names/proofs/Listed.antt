@@ -37,7 +37,8 @@ range-join P i j before here k l p = go (ltb k i) refl
 ---- the names from an index on
 
 module _ (s : List ℕ) where
-  name-here : (n i : ℕ) → Clear s i (i + n) → i + n < length s → getD s (i + n) 0 ≡ 0x0A → namesOf (drop i s) ≡ take n (drop i s) ∷ namesOf (drop (suc (i + n)) s)
+  name-here :
+      (n i : ℕ) → Clear s i (i + n) → i + n < length s → getD s (i + n) 0 ≡ 0x0A → namesOf (drop i s) ≡ take n (drop i s) ∷ namesOf (drop (suc (i + n)) s)
   unfolding namesOf if_then_else_ onto
   name-here zero i h l e = let z : i + 0 ≡ i = omega arith in rw (z, drop-cons s i 0 (omega arith), eq-eqb (getD s i 0) 0x0A (rw z at e))
   name-here (suc n) i h l e =
@@ -49,7 +50,11 @@ module _ (s : List ℕ) where
   unfolding namesOf if_then_else_ onto
   name-none zero i h l = let y : length s ≤ i = omega arith in rw (drop-of-length-le s y)
   name-none (suc n) i h l =
-      rw (drop-cons s i 0 (omega arith), ne-eqb (getD s i 0) 0x0A (h i (omega arith) (omega arith)), name-none n (suc i) (λ k f g. h k (omega arith) (omega arith)) (omega arith))
+      rw (
+        drop-cons s i 0 (omega arith),
+        ne-eqb (getD s i 0) 0x0A (h i (omega arith) (omega arith)),
+        name-none n (suc i) (λ k f g. h k (omega arith) (omega arith)) (omega arith),
+      )
 
 -- the names after a 0A are the last ones
 later : (s : List ℕ) (i : ℕ) → i < length s → getD s i 0 ≡ 0x0A
@@ -106,7 +111,9 @@ module _ (s x : List ℕ) (n : ℕ) where
     -- the list ends in the middle of a name
     at-end : i ≡ length s → isListed s x ≡ false
     unfolding isIn
-    at-end h = let z : from + (i - from) ≡ i = omega (arith, g .order) in g .rest ∙ ap (isIn x) (name-none s (i - from) from (rw z (g .clear)) (omega (arith, g .order)))
+    at-end h =
+        let z : from + (i - from) ≡ i = omega (arith, g .order) in
+        g .rest ∙ ap (isIn x) (name-none s (i - from) from (rw z (g .clear)) (omega (arith, g .order)))
 
     module _ (h : i < length s) (e : getD s i 0 ≡ 0x0A) where
       name-is : namesOf (drop from s) ≡ take (i - from) (drop from s) ∷ namesOf (drop (i + 1) s)
@@ -134,15 +141,18 @@ module _ (s x : List ℕ) (n : ℕ) where
     pass zero i from h g = at-end from i g (omega arith)
     pass (suc m) i from h g = byte (λ f p. pass m (i + 1) f (omega arith) p) (eqb (getD s i 0) 0x0A) refl (same x (take (i - from) (drop from s))) refl
       where
-        byte : ((f : ℕ) → Passed f (i + 1) → isListed s x ≡ false) → (t : Bool) → eqb (getD s i 0) 0x0A ≡ t → (u : Bool) → same x (take (i - from) (drop from s)) ≡ u
-            → isListed s x ≡ false
+        byte :
+            ((f : ℕ) → Passed f (i + 1) → isListed s x ≡ false) → (t : Bool) → eqb (getD s i 0) 0x0A ≡ t → (u : Bool) →
+            same x (take (i - from) (drop from s)) ≡ u → isListed s x ≡ false
         byte ih true q true r = absurd (none i (omega arith) (found from i g (omega arith) (eqb-true _ _ q) l (same-eq _ _ r)))
         byte ih true q false r = ih (i + 1) (next from i g (omega arith) (eqb-true _ _ q) r)
         byte ih false q u r = ih from (on from i g (eqb-false _ _ q))
 
     pub listed-none : isListed s x ≡ false
     unfolding isListed
-    listed-none = pass (length s) 0 0 (omega arith) (record { order = omega arith; begins = λ h. absurd (omega arith); clear = λ k f m. absurd (omega arith); rest = refl })
+    listed-none =
+        pass (length s) 0 0 (omega arith)
+        (record { order = omega arith; begins = λ h. absurd (omega arith); clear = λ k f m. absurd (omega arith); rest = refl })
 
 -- no name that ends before i is x, and r says whether one from i on is
 pub listed-is : (s x : List ℕ) (n i : ℕ) (r : Bool) → length x ≡ n → ((k : ℕ) → k < i → NameEnds s x n k → ⊥)

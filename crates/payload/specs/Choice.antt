@@ -4,7 +4,6 @@ use mathlib.Core.Bool.{Bool, false, true}
 infixr 10 if_then_else_
 infixr 35 _and_
 infixr 33 _or_
-
 unfoldable pub if_then_else_ : {A : Type 0} → Bool → A → A → A
 if_then_else_ true a b = a
 if_then_else_ false a b = b

@@ -45,6 +45,7 @@ pub record HouseProgram (c : Capacities) (names p : List ℕ) (T : Tables) : Typ
   pub script : Script Part
   pub end : State
   pub sound : scriptOf T ≡ ok script end
+  pub small-store : length (T .store) ≤ sizeLimit
   pub in-list : Listed (isListed names) (forgetScript script)
   pub held : Fits c (forgetScript script)
   pub named : allNamed (forgetScript script) ≡ true

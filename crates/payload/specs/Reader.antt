@@ -38,7 +38,6 @@ andThen (refused n p) f = refused n p
 
 infixr 30 _>>=_
 infixr 30 _>>_
-
 unfoldable pub _>>=_ : {A B : Type 0} → Reader A → (A → Reader B) → Reader B
 _>>=_ r f = λ s. andThen (r s) f
 

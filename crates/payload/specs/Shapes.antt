@@ -33,33 +33,33 @@ numberOnly k = withKids (ItemKind.number k ∷ []) noValue
 unfoldable pub shapes : List Shape
 unfolding numberOnly
 shapes =
-    withKids [] noValue -- 0 Null
-    ∷ numberOnly i64 -- 1 Int
-    ∷ numberOnly f64 -- 2 Float
-    ∷ numberOnly bool -- 3 Bool
-    ∷ numberOnly u8 -- 4 Byte
-    ∷ numberOnly char -- 5 Char
-    ∷ withKids (ItemKind.string ∷ []) noValue -- 6 Str
-    ∷ withChunk (ItemKind.string ∷ ItemKind.number u64 ∷ []) -- 7 Function: name, arity
-    ∷ withKids (ItemKind.nativeName ∷ []) noValue -- 8 Native
-    ∷ withKids [] oneValue -- 9 Ok
-    ∷ withKids [] oneValue -- 10 Err
-    ∷ withKids [] oneValue -- 11 Error
-    ∷ withKids [] values -- 12 Arr
-    ∷ withKids [] values -- 13 Tuple
-    ∷ withKids [] keys -- 14 Set
-    ∷ withKids [] pairs -- 15 Map
-    ∷ withFields (ItemKind.recordName ∷ []) -- 16 Record
-    ∷ withKids (ItemKind.string ∷ ItemKind.string ∷ []) noValue -- 17 Tag: name, variant
-    ∷ withTemplate (ItemKind.number u16 ∷ []) -- 18 Closure: capture start
-    ∷ numberOnly u64 -- 19 UInt
-    ∷ numberOnly i32 -- 20 SInt
-    ∷ numberOnly u32 -- 21 SUInt
-    ∷ numberOnly u16 -- 22 BByte
-    ∷ numberOnly i16 -- 23 BSByte
-    ∷ numberOnly i8 -- 24 SByte
-    ∷ numberOnly f32 -- 25 SFloat
-    ∷ withKids (ItemKind.number handle ∷ ItemKind.number u64 ∷ []) noValue -- 26 Handle: kind, id
+    withKids [] noValue  -- 0 Null
+    ∷ numberOnly i64  -- 1 Int
+    ∷ numberOnly f64  -- 2 Float
+    ∷ numberOnly bool  -- 3 Bool
+    ∷ numberOnly u8  -- 4 Byte
+    ∷ numberOnly char  -- 5 Char
+    ∷ withKids (ItemKind.string ∷ []) noValue  -- 6 Str
+    ∷ withChunk (ItemKind.string ∷ ItemKind.number u64 ∷ [])  -- 7 Function: name, arity
+    ∷ withKids (ItemKind.nativeName ∷ []) noValue  -- 8 Native
+    ∷ withKids [] oneValue  -- 9 Ok
+    ∷ withKids [] oneValue  -- 10 Err
+    ∷ withKids [] oneValue  -- 11 Error
+    ∷ withKids [] values  -- 12 Arr
+    ∷ withKids [] values  -- 13 Tuple
+    ∷ withKids [] keys  -- 14 Set
+    ∷ withKids [] pairs  -- 15 Map
+    ∷ withFields (ItemKind.recordName ∷ [])  -- 16 Record
+    ∷ withKids (ItemKind.string ∷ ItemKind.string ∷ []) noValue  -- 17 Tag: name, variant
+    ∷ withTemplate (ItemKind.number u16 ∷ [])  -- 18 Closure: capture start
+    ∷ numberOnly u64  -- 19 UInt
+    ∷ numberOnly i32  -- 20 SInt
+    ∷ numberOnly u32  -- 21 SUInt
+    ∷ numberOnly u16  -- 22 BByte
+    ∷ numberOnly i16  -- 23 BSByte
+    ∷ numberOnly i8  -- 24 SByte
+    ∷ numberOnly f32  -- 25 SFloat
+    ∷ withKids (ItemKind.number handle ∷ ItemKind.number u64 ∷ []) noValue  -- 26 Handle: kind, id
     ∷ []
 
 -- 32 is a chunk row, 33 a field row

@@ -5,7 +5,8 @@ ghost use Prim.Native.Nat.{_+_, _*_, _/_, _≤_, _<_};
 ghost use lib.ListN.{length, getD, drop, set};
 ghost use Rattle.slices.specs.Zeros.{zeros};
 ghost use Rattle.payload.specs.Rows.{rowWidth};
-ghost use Rattle.pool_index.specs.Strings.{bytesAt, poolStrings, distinct};
+ghost use Rattle.pool_index.specs.Strings.{bytesAt, distinct};
+ghost use Rattle.pool_check.specs.Plain.{plainStrings};
 ghost use Rattle.gather.specs.Gather.{itemParts, rowParts, rowsParts, nameParts};
 ghost use Rattle.pool_check.specs.Order.{MetOne, Met};
 ghost use Rattle.pool_check.specs.Hash.{mix, hashFrom, bucketOf};
@@ -62,7 +63,14 @@ fn meet_row(store: &[u8], rows: &[u64], at: usize, pool: &[u64], met: usize) -> 
         return met;
     }
     let first = meet_item(row_layout::first_form(tag), store, rows, at + 1, pool, met);
-    meet_item(row_layout::second_form(tag), store, rows, at + row_layout::second_word(tag) as usize, pool, first)
+    meet_item(
+        row_layout::second_form(tag),
+        store,
+        rows,
+        at + row_layout::second_word(tag) as usize,
+        pool,
+        first,
+    )
 }
 
 fn meet_rows(store: &[u8], rows: &[u64], pool: &[u64]) -> usize
@@ -79,7 +87,14 @@ fn meet_rows(store: &[u8], rows: &[u64], pool: &[u64]) -> usize
 }
 
 // How many entries of the pool the gathered strings of a program meet in the pool's order; more than there are where one comes too early.
-pub fn strings_met(store: &[u8], rows: &[u64], flag: u64, name_o: usize, name_n: usize, pool: &[u64]) -> usize
+pub fn strings_met(
+    store: &[u8],
+    rows: &[u64],
+    flag: u64,
+    name_o: usize,
+    name_n: usize,
+    pool: &[u64],
+) -> usize
     ensures { λ r. ⌜ Met (now (pool .entry)) 0 (rowsParts (now (store .entry)) (length (now (rows .entry)) / rowWidth) (now (rows .entry)) ++ nameParts (now (store .entry)) flag «name_o» «name_n») r ⌝ }
 {
     let met = meet_rows(store, rows, pool);
@@ -138,7 +153,15 @@ fn link_at(links: &[u32], i: usize) -> usize
 }
 
 // Whether an entry of a chain has the bytes of a part.
-fn is_in_chain(store: &[u8], pool: &[u64], base: usize, nexts: &[u32], link: usize, o: u64, n: u64) -> bool
+fn is_in_chain(
+    store: &[u8],
+    pool: &[u64],
+    base: usize,
+    nexts: &[u32],
+    link: usize,
+    o: u64,
+    n: u64,
+) -> bool
     requires { ⌜ Falls (now nexts) ⌝ }
     requires { ⌜ (link ≤ length (now nexts)) × (base + link ≤ length (now pool) / 2) ⌝ }
     ensures { λ r. ⌜ Searched (now (store .entry)) (now (pool .entry)) base (now (nexts .entry)) link (bytesAt (now (store .entry)) o n) r ⌝ }
@@ -168,7 +191,13 @@ fn put_entry(heads: &mut [u32], nexts: &mut [u32], b: usize, i: usize, head: usi
 }
 
 // Whether no string from entry `base` on, up to as many as there are links, stands again after its place. The heads of the chains are all 0.
-fn chunk_differs(store: &[u8], pool: &[u64], base: usize, heads: &mut [u32], nexts: &mut [u32]) -> bool
+fn chunk_differs(
+    store: &[u8],
+    pool: &[u64],
+    base: usize,
+    heads: &mut [u32],
+    nexts: &mut [u32],
+) -> bool
     requires { ⌜ (base ≤ length (now pool) / 2) × (0 < length (now heads)) × (length (now nexts) ≤ 65536) ⌝ }
     requires { ⌜ now heads ≡ zeros (length (now heads)) ⌝ }
     requires { ⌜ Falls (now nexts) ⌝ }
@@ -195,7 +224,7 @@ fn chunk_differs(store: &[u8], pool: &[u64], base: usize, heads: &mut [u32], nex
 fn all_differ(store: &[u8], pool: &[u64], heads: &mut [u32], nexts: &mut [u32]) -> bool
     requires { ⌜ (0 < length (now heads)) × (0 < length (now nexts)) × (length (now nexts) ≤ 65536) ⌝ }
     requires { ⌜ Falls (now nexts) ⌝ }
-    ensures { λ r. ⌜ r ≡ distinct (poolStrings (now (store .entry)) (now (pool .entry))) ⌝ }
+    ensures { λ r. ⌜ r ≡ distinct (plainStrings (now (store .entry)) (now (pool .entry))) ⌝ }
 {
     let count = pool.len() / 2;
     let mut base: usize = 0;
@@ -210,7 +239,7 @@ fn all_differ(store: &[u8], pool: &[u64], heads: &mut [u32], nexts: &mut [u32]) 
 }
 
 fn few_differ(store: &[u8], pool: &[u64]) -> bool
-    ensures { λ r. ⌜ r ≡ distinct (poolStrings (now (store .entry)) (now (pool .entry))) ⌝ }
+    ensures { λ r. ⌜ r ≡ distinct (plainStrings (now (store .entry)) (now (pool .entry))) ⌝ }
 {
     let mut heads = [0u32; 256];
     let mut nexts = [0u32; 256];
@@ -218,7 +247,7 @@ fn few_differ(store: &[u8], pool: &[u64]) -> bool
 }
 
 fn many_differ(store: &[u8], pool: &[u64]) -> bool
-    ensures { λ r. ⌜ r ≡ distinct (poolStrings (now (store .entry)) (now (pool .entry))) ⌝ }
+    ensures { λ r. ⌜ r ≡ distinct (plainStrings (now (store .entry)) (now (pool .entry))) ⌝ }
 {
     let mut heads = [0u32; 32768];
     let mut nexts = [0u32; 32768];
@@ -227,7 +256,7 @@ fn many_differ(store: &[u8], pool: &[u64]) -> bool
 
 // Whether no string of the pool stands twice. The table of chains for few strings is small, so that it is cheap to clear.
 pub fn are_distinct(store: &[u8], pool: &[u64]) -> bool
-    ensures { λ r. ⌜ r ≡ distinct (poolStrings (now (store .entry)) (now (pool .entry))) ⌝ }
+    ensures { λ r. ⌜ r ≡ distinct (plainStrings (now (store .entry)) (now (pool .entry))) ⌝ }
 {
     if pool.len() <= 512 {
         return few_differ(store, pool);

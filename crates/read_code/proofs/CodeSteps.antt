@@ -32,7 +32,9 @@ module _ {p : List ℕ} {at : ℕ} (most used : ℕ) where
 
       module _ (k : used + n ≤ most) where
         -- the rest adds no spans of its own
-        rest : {x : Answer Code} → Reads p (o + n) (varint >>= λ c. readRuns c (pos 0) (pos 0) >>= counted n (partOf p o n)) x → (rows : ℕ) → readCode most (stateAt p at rows used) ≡ resultOf p rows (used + n) x
+        rest :
+            {x : Answer Code} → Reads p (o + n) (varint >>= λ c. readRuns c (pos 0) (pos 0) >>= counted n (partOf p o n)) x → (rows : ℕ) →
+            readCode most (stateAt p at rows used) ≡ resultOf p rows (used + n) x
         unfolding readCode _>>=_ _>>_ andThen must newSpans
         rest c rows = rw (g .is rows used, reads-body p o n h .is rows used, le-leb (used + n) most k) (c .is rows (used + n))
 
@@ -40,16 +42,21 @@ module _ {p : List ℕ} {at : ℕ} (most used : ℕ) where
         no-count c = rest (reads-stop _ c)
 
         module _ {count first : ℕ} (c : Reads p (o + n) varint (read count first)) where
-          pub no-runs : {m q : ℕ} → Reads p first (readRuns count (pos 0) (pos 0) >>= counted n (partOf p o n)) (stopped m q) → (rows : ℕ) → readCode most (stateAt p at rows used) ≡ refused m q
+          pub no-runs :
+              {m q : ℕ} → Reads p first (readRuns count (pos 0) (pos 0) >>= counted n (partOf p o n)) (stopped m q) → (rows : ℕ) →
+              readCode most (stateAt p at rows used) ≡ refused m q
           no-runs r = rest (reads-then _ c r)
 
           pub accepted : {table table′ : List ℕ} {next : ℕ} → Stored p table table′ used n count first next → Accepted p table table′ used most at o n next
-          accepted r = record {
-            spans = expand (r .runs);
-            is = rest (reads-then _ c (reads-then _ (r .reads) (reads-here _ (reads-must _ _ (eq-eqb (total (r .runs)) n (r .each)) (reads-pure _ (r .reads .inside))))));
-            each = length-expand (r .runs) ∙ r .each;
-            stored = r .stored;
-            fits = k;
-            inside = r .reads .inside;
-            code-inside = h;
-          }
+          accepted r =
+              record {
+                spans = expand (r .runs);
+                is = rest
+                    (reads-then _ c
+                    (reads-then _ (r .reads) (reads-here _ (reads-must _ _ (eq-eqb (total (r .runs)) n (r .each)) (reads-pure _ (r .reads .inside))))));
+                each = length-expand (r .runs) ∙ r .each;
+                stored = r .stored;
+                fits = k;
+                inside = r .reads .inside;
+                code-inside = h;
+              }

@@ -37,7 +37,8 @@ module _ {p : List ℕ} {at : ℕ} {r : Varint} where
 
 module _ {p : List ℕ} {at : ℕ} {given old : ℤ} (o : given ≡ old) where
   module _ {r : PositionAt} where
-    pub was-position : {z : ℤ} {next : ℕ} → r ≡ position-at.Position z next → Reads p at (readPosition given) (positionAnswer r) → Reads p at (readPosition old) (read z next)
+    pub was-position :
+        {z : ℤ} {next : ℕ} → r ≡ position-at.Position z next → Reads p at (readPosition given) (positionAnswer r) → Reads p at (readPosition old) (read z next)
     was-position w g = rw (w, o) at g
 
     pub no-position : {n q : ℕ} → r ≡ position-at.Refused n q → Reads p at (readPosition given) (positionAnswer r) → Reads p at (readPosition old) (stopped n q)
@@ -53,7 +54,9 @@ module _ {p : List ℕ} {at : ℕ} {given old : ℤ} (o : given ≡ old) where
     unfolding readPosition
     reads-position {new} w = go (inRange (old +ℤ unzigzagOf z)) refl (sym w ∙ moved)
       where
-        go : (t : Bool) → inRange (old +ℤ unzigzagOf z) ≡ t → positions.At new ≡ cond t (positions.At (old +ℤ unzigzagOf z)) positions.OutOfRange → Reads p at (readPosition old) (read new next)
+        go :
+            (t : Bool) → inRange (old +ℤ unzigzagOf z) ≡ t → positions.At new ≡ cond t (positions.At (old +ℤ unzigzagOf z)) positions.OutOfRange →
+            Reads p at (readPosition old) (read new next)
         go true q i = let n : new ≡ old +ℤ unzigzagOf z = cc in rw n (reads-here _ (reads-then _ g (reads-must _ _ q (reads-pure _ (g .inside)))))
         go false q i = let n : _≡_ {A = ℕ} 0 1 = cc in absurd (omega arith)
 
@@ -61,7 +64,9 @@ module _ {p : List ℕ} {at : ℕ} {given old : ℤ} (o : given ≡ old) where
     unfolding readPosition
     reads-no-position w = go (inRange (old +ℤ unzigzagOf z)) refl (sym w ∙ moved)
       where
-        go : (t : Bool) → inRange (old +ℤ unzigzagOf z) ≡ t → positions.OutOfRange ≡ cond t (positions.At (old +ℤ unzigzagOf z)) positions.OutOfRange → Reads p at (readPosition old) (stopped 8 at)
+        go :
+            (t : Bool) → inRange (old +ℤ unzigzagOf z) ≡ t → positions.OutOfRange ≡ cond t (positions.At (old +ℤ unzigzagOf z)) positions.OutOfRange →
+            Reads p at (readPosition old) (stopped 8 at)
         go true q i = let n : _≡_ {A = ℕ} 0 1 = cc in absurd (omega arith)
         go false q i = reads-here _ (reads-then _ g (reads-must-not _ q))
 

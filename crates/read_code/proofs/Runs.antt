@@ -31,7 +31,9 @@ module _ {p : List ℕ} {at : ℕ} {s e : ℤ} where
       unfolding readRuns
       run-read {count} {next} k u v = rw (u, v) (record { outcome = (k .inside, λ n x y. reads-then _ g (reads-then _ h (reads-then _ k (in-front n x y)))) })
         where
-          in-front : (n : ℕ) (x : Answer (List Run)) → Reads p next (readRuns n s′ e′) x → Reads p next (readRuns n s′ e′ >>= λ rs. pure (runOf s′ e′ count ∷ rs)) (after (runOf s′ e′ count ∷ []) x)
+          in-front :
+              (n : ℕ) (x : Answer (List Run)) → Reads p next (readRuns n s′ e′) x →
+              Reads p next (readRuns n s′ e′ >>= λ rs. pure (runOf s′ e′ count ∷ rs)) (after (runOf s′ e′ count ∷ []) x)
           in-front n (read rs q) y = reads-then _ y (reads-pure _ (y .inside))
           in-front n (stopped m q) y = reads-stop _ y
 
@@ -69,12 +71,16 @@ module _ {p : List ℕ} {count : ℕ} {s₀ e₀ : ℤ} {at : ℕ} where
       one : suc (left - 1) ≡ left
       one = omega arith
 
-      pub sofar-more : {s′ e′ a b : ℤ} {n next′ : ℕ} → r ≡ run-at.Run s′ e′ n next′ → a ≡ s′ → b ≡ e′ → Sofar p count s₀ e₀ at (runs ++ (runOf s′ e′ n ∷ [])) (left - 1) a b next′
+      pub sofar-more :
+          {s′ e′ a b : ℤ} {n next′ : ℕ} → r ≡ run-at.Run s′ e′ n next′ → a ≡ s′ → b ≡ e′ →
+          Sofar p count s₀ e₀ at (runs ++ (runOf s′ e′ n ∷ [])) (left - 1) a b next′
       sofar-more {s′} {e′} {n = n} w u v =
           let o = (rw w at g) .outcome in
           rw (u, v) (record { inside = o .0; rest = λ x y. joined x (f .rest (after (runOf s′ e′ n ∷ []) x) (rw (← one) (o .1 (left - 1) x y))) })
         where
-          joined : (x : Answer (List Run)) → Reads p at (readRuns count s₀ e₀) (after runs (after (runOf s′ e′ n ∷ []) x)) → Reads p at (readRuns count s₀ e₀) (after (runs ++ (runOf s′ e′ n ∷ [])) x)
+          joined :
+              (x : Answer (List Run)) → Reads p at (readRuns count s₀ e₀) (after runs (after (runOf s′ e′ n ∷ []) x)) →
+              Reads p at (readRuns count s₀ e₀) (after (runs ++ (runOf s′ e′ n ∷ [])) x)
           joined (read rs q) y = rw append-assoc y
           joined (stopped m q) y = y
 
@@ -99,7 +105,9 @@ pub record Filling (p table₀ table : List ℕ) (used size count at from left :
 
 -- the counts are not one for each byte of code
 module _ {p : List ℕ} {at : ℕ} where
-  miscounted : (count size : ℕ) (x : Part) {rs : List Run} {next : ℕ} → Reads p at (readRuns count (pos 0) (pos 0)) (read rs next) → (total rs ≡ size → ⊥) → Reads p at (readRuns count (pos 0) (pos 0) >>= counted size x) (stopped 7 next)
+  miscounted :
+      (count size : ℕ) (x : Part) {rs : List Run} {next : ℕ} → Reads p at (readRuns count (pos 0) (pos 0)) (read rs next) → (total rs ≡ size → ⊥) →
+      Reads p at (readRuns count (pos 0) (pos 0) >>= counted size x) (stopped 7 next)
   miscounted count size x {rs} g d = reads-then _ g (reads-here _ (reads-must-not _ (ne-eqb (total rs) size d)))
 
 module _ {p table₀ : List ℕ} {used size count at : ℕ} where
@@ -114,8 +122,10 @@ module _ {p table₀ : List ℕ} {used size count at : ℕ} where
         unfolding total
         grown = omega (arith, total-append (f .runs) (runOf s′ e′ n ∷ []))
 
-        pub filling-more : {table′ : List ℕ} {start end : ℕ} → from + n ≤ used + size → length table′ ≡ length table → start ≡ wordOf a → end ≡ wordOf b →
-            table′ ≡ put table (2 * from) (spanWords (replicate n (spanOf start end))) → Filling p table₀ table′ used size count at (from + n) (left - 1) a b next′
+        pub filling-more :
+            {table′ : List ℕ} {start end : ℕ} → from + n ≤ used + size → length table′ ≡ length table → start ≡ wordOf a → end ≡ wordOf b →
+            table′ ≡ put table (2 * from) (spanWords (replicate n (spanOf start end))) →
+            Filling p table₀ table′ used size count at (from + n) (left - 1) a b next′
         filling-more {table′} k l x y m = record {
           runs = f .runs ++ (runOf s′ e′ n ∷ []);
           sofar = sofar-more (f .sofar) g h w u v;
@@ -125,7 +135,8 @@ module _ {p table₀ : List ℕ} {used size count at : ℕ} where
           stored = run-stored ∙ run-more table₀ used (f .runs) (runOf s′ e′ n) from (f .filled);
         }
           where
-            run-stored : table′ ≡ put (put table₀ (2 * used) (spanWords (expand (f .runs)))) (2 * from) (spanWords (replicate n (spanOf (wordOf s′) (wordOf e′))))
+            run-stored :
+                table′ ≡ put (put table₀ (2 * used) (spanWords (expand (f .runs)))) (2 * from) (spanWords (replicate n (spanOf (wordOf s′) (wordOf e′))))
             run-stored = rw (x, y, u, v, f .stored) at m
 
         -- the counts pass the code's length

@@ -17,7 +17,8 @@ both : (a b : Bool) → (a && b) ≡ true → (a ≡ true) × (b ≡ true)
 both true b e = (refl, e)
 both false b e = absurd (false≢true e)
 
-pub short-run : (p : List ℕ) (at : ℕ) → at + 3 ≤ length p → ((ltb (getD p at 0) 128 && ltb (getD p (at + 1) 0) 128) && ltb (getD p (at + 2) 0) 128) ≡ true → ShortRun p at
+pub short-run :
+    (p : List ℕ) (at : ℕ) → at + 3 ≤ length p → ((ltb (getD p at 0) 128 && ltb (getD p (at + 1) 0) 128) && ltb (getD p (at + 2) 0) 128) ≡ true → ShortRun p at
 short-run p at h e =
     let f = both _ _ e in
     let g = both _ _ (f .0) in

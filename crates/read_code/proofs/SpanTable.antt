@@ -15,7 +15,9 @@ use Rattle.payload.specs.Tables.{spanWords}
 use Rattle.read_code.specs.Laws.Spans.{expand-append, length-expand, spanWords-append, length-spanWords}
 
 -- spans from span number `from` on, and more of them right after
-pub spans-more : (xs : List ℕ) (from : ℕ) (a b : List Span) (next : ℕ) → next ≡ from + length a → put (put xs (2 * from) (spanWords a)) (2 * next) (spanWords b) ≡ put xs (2 * from) (spanWords (a ++ b))
+pub spans-more :
+    (xs : List ℕ) (from : ℕ) (a b : List Span) (next : ℕ) → next ≡ from + length a →
+    put (put xs (2 * from) (spanWords a)) (2 * next) (spanWords b) ≡ put xs (2 * from) (spanWords (a ++ b))
 spans-more xs from a b next e =
     let k : 2 * next ≡ 2 * from + length (spanWords a) = omega (arith, length-spanWords a) in
     rw (k, put-put) (ap (put xs (2 * from)) (sym (spanWords-append a b)))
@@ -55,7 +57,8 @@ span-again xs ys from k s e =
     ∙ last
 
 -- the next one of n equal spans, or the last one again where all are stored
-pub span-next : (xs ys : List ℕ) (from n k place : ℕ) (s : Span) → 1 ≤ n → place + 1 ≡ from + min (k + 1) n → ys ≡ put xs (2 * from) (spanWords (replicate (min k n) s)) →
+pub span-next :
+    (xs ys : List ℕ) (from n k place : ℕ) (s : Span) → 1 ≤ n → place + 1 ≡ from + min (k + 1) n → ys ≡ put xs (2 * from) (spanWords (replicate (min k n) s)) →
     put ys (2 * place) (spanWords (s ∷ [])) ≡ put xs (2 * from) (spanWords (replicate (min (k + 1) n) s))
 span-next xs ys from n k place s some p e = go (ltb k n) refl
   where
@@ -74,9 +77,12 @@ span-next xs ys from n k place s some p e = go (ltb k n) refl
         rw (next, at) (span-again xs ys from (n - 1) s (rw before at e))
 
 -- one run more
-pub run-more : (xs : List ℕ) (used : ℕ) (rs : List Run) (r : Run) (from : ℕ) → from ≡ used + total rs →
-    put (put xs (2 * used) (spanWords (expand rs))) (2 * from) (spanWords (replicate (r .count) (r .span))) ≡ put xs (2 * used) (spanWords (expand (rs ++ (r ∷ []))))
+pub run-more :
+    (xs : List ℕ) (used : ℕ) (rs : List Run) (r : Run) (from : ℕ) → from ≡ used + total rs →
+    put (put xs (2 * used) (spanWords (expand rs))) (2 * from) (spanWords (replicate (r .count) (r .span)))
+    ≡ put xs (2 * used) (spanWords (expand (rs ++ (r ∷ []))))
 unfolding expand
 run-more xs used rs r from e =
     spans-more xs used (expand rs) (replicate (r .count) (r .span)) from (omega (arith, length-expand rs))
-    ∙ ap (λ (l : List Span). put xs (2 * used) (spanWords l)) (sym (expand-append rs (r ∷ []) ∙ ap (λ (l : List Span). expand rs ++ l) (append-nil (replicate (r .count) (r .span)))))
+    ∙ ap (λ (l : List Span). put xs (2 * used) (spanWords l))
+    (sym (expand-append rs (r ∷ []) ∙ ap (λ (l : List Span). expand rs ++ l) (append-nil (replicate (r .count) (r .span)))))

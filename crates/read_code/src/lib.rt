@@ -243,7 +243,14 @@ pub fn read_code(bytes: &[u8], spans: &mut [u64], used: usize, most: usize, at: 
                         return CodeAt::Refused(23, body_end);
                     }
                     match cursor::read_uvarint(bytes, body_end) {
-                        Varint::Number(count, runs) => match read_runs(bytes, spans, used, size, count, runs) {
+                        Varint::Number(count, runs) => match read_runs(
+                            bytes,
+                            spans,
+                            used,
+                            size,
+                            count,
+                            runs,
+                        ) {
                             RunsAt::End(next) => CodeAt::Code(offset, size, next),
                             RunsAt::Refused(n, q) => CodeAt::Refused(n, q),
                         },

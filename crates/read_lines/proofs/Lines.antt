@@ -26,7 +26,8 @@ use Rattle.read_lines.specs.declared.LinesAt.the-variants.{Lines, Refuse
 
 ---- after a flag of 1
 
-pub name-length : {p pool : List ℕ} {at : ℕ} {r : PartAt} → ReadsPart p pool at r → (o n : ℕ) {next : ℕ} → r ≡ part-at.Part o n next → n ≡ length (partOf p o n .bytes)
+pub name-length :
+    {p pool : List ℕ} {at : ℕ} {r : PartAt} → ReadsPart p pool at r → (o n : ℕ) {next : ℕ} → r ≡ part-at.Part o n next → n ≡ length (partOf p o n .bytes)
 name-length {p} g o n w = sym (length-part p o n (part-inside w g))
 
 module _ {p pool : List ℕ} {most at : ℕ} where
@@ -51,19 +52,24 @@ module _ {p pool : List ℕ} {most at : ℕ} where
       unfolding readFlagged contextOf
       no-starts k = record { reads = λ c names h. reads-then _ (g .reads c names h) (reads-then _ f (reads-stop _ (rw h k))) }
 
-      pub flagged : {o n : ℕ} {table table′ : List ℕ} {k next : ℕ} → o ≡ b .offset → n ≡ length (b .bytes) → Stored p table table′ most count first k next → Accepted p pool table table′ most at (λ e. readFlagged e 1) 1 o n k next
+      pub flagged :
+          {o n : ℕ} {table table′ : List ℕ} {k next : ℕ} → o ≡ b .offset → n ≡ length (b .bytes) → Stored p table table′ most count first k next →
+          Accepted p pool table table′ most at (λ e. readFlagged e 1) 1 o n k next
       unfolding readFlagged contextOf lineFlag lineName lineStarts
-      flagged i l s = record {
-        line = some (record { name = b; starts = s .starts });
-        is = record { reads = λ c names e. reads-then _ (g .reads c names e) (reads-then _ f (reads-then _ (rw e (s .reads)) (reads-pure _ (s .reads .inside)))) };
-        flag-is = refl;
-        offset-is = i;
-        length-is = l;
-        each = sym (s .each);
-        stored = s .stored;
-        fits = s .fits;
-        inside = s .reads .inside;
-      }
+      flagged i l s =
+          record {
+            line = some (record { name = b; starts = s .starts });
+            is = record {
+              reads = λ c names e. reads-then _ (g .reads c names e) (reads-then _ f (reads-then _ (rw e (s .reads)) (reads-pure _ (s .reads .inside))));
+            };
+            flag-is = refl;
+            offset-is = i;
+            length-is = l;
+            each = sym (s .each);
+            stored = s .stored;
+            fits = s .fits;
+            inside = s .reads .inside;
+          }
 
 ---- the flag
 
@@ -94,9 +100,13 @@ module _ {p pool : List ℕ} {most at : ℕ} where
     module _ (z : 0 < flag) (l : flag ≤ 1) where
       after-flag : {x : Answer (Option (LineIndex Part))} → InContext p pool most next (λ e. readFlagged e 1) x → InContext p pool most at readLineIndex x
       unfolding readLineIndex
-      after-flag f = let e : flag ≡ 1 = omega arith in record { reads = λ c names h. reads-here _ (reads-then _ g (reads-must _ _ (le-leb flag 1 l) (rw e (f .reads c names h)))) }
+      after-flag f =
+          let e : flag ≡ 1 = omega arith in
+          record { reads = λ c names h. reads-here _ (reads-then _ g (reads-must _ _ (le-leb flag 1 l) (rw e (f .reads c names h)))) }
 
-      pub with-lines : {table table′ : List ℕ} {r : LinesAt} → LinesRead p pool table table′ most next (λ e. readFlagged e 1) r → LinesRead p pool table table′ most at readLineIndex r
+      pub with-lines :
+          {table table′ : List ℕ} {r : LinesAt} → LinesRead p pool table table′ most next (λ e. readFlagged e 1) r →
+          LinesRead p pool table table′ most at readLineIndex r
       with-lines {r = Lines flag o n k end} f = let a = f .outcome in record {
         outcome = record {
           line = a .line;

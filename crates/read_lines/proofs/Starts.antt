@@ -52,7 +52,9 @@ module _ {p table₀ : List ℕ} {most count at : ℕ} where
         unfolding readStarts
         storing-stop g = sofar-stop (f .sofar) (rw one (reads-here _ (reads-must _ _ (lt-ltb k most l) (reads-stop _ g))))
 
-        pub storing-more : {new kept : ℤ} {next′ w : ℕ} → Reads p next (readPosition sum) (read new next′) → kept ≡ new → w ≡ wordOf kept % 2 ^ 32 → Storing p table₀ (set table k w) most count at (k + 1) kept next′
+        pub storing-more :
+            {new kept : ℤ} {next′ w : ℕ} → Reads p next (readPosition sum) (read new next′) → kept ≡ new → w ≡ wordOf kept % 2 ^ 32 →
+            Storing p table₀ (set table k w) most count at (k + 1) kept next′
         unfolding readStarts
         storing-more {new} {kept} {next′} {w} g i e = rw (e, i) (record {
           starts = f .starts ++ (wordOf new % 2 ^ 32 ∷ []);
@@ -64,7 +66,9 @@ module _ {p table₀ : List ℕ} {most count at : ℕ} where
           stored = rw (f .stored) start-last;
         })
           where
-            start-first : (x : Answer (List ℕ)) → Reads p next′ (readStarts most (count - (k + 1)) (k + 1) new) x → Reads p next (readStarts most (count - k) k sum) (after (wordOf new % 2 ^ 32 ∷ []) x)
+            start-first :
+                (x : Answer (List ℕ)) → Reads p next′ (readStarts most (count - (k + 1)) (k + 1) new) x →
+                Reads p next (readStarts most (count - k) k sum) (after (wordOf new % 2 ^ 32 ∷ []) x)
             start-first x y = rw one (reads-here _ (reads-must _ _ (lt-ltb k most l) (reads-then _ g (in-front _ x (rw add-one at y)))))
 
             start-last : set (put table₀ 0 (f .starts)) k (wordOf new % 2 ^ 32) ≡ put table₀ 0 (f .starts ++ (wordOf new % 2 ^ 32 ∷ []))

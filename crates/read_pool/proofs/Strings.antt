@@ -102,7 +102,9 @@ module _ {p table₀ : List ℕ} {most count at : ℕ} where
         unfolding readStrings
         storing-stop g = sofar-stop (f .sofar) (rw one (reads-here _ (reads-must _ _ (lt-ltb k most l) (reads-stop _ g))))
 
-        pub storing-more : (o n : ℕ) → Reads p next readString (read (partOf p o n) (o + n)) → Storing p table₀ (set (set table (2 * k) o) (2 * k + 1) n) most count at (k + 1) (o + n)
+        pub storing-more :
+            (o n : ℕ) → Reads p next readString (read (partOf p o n) (o + n)) →
+            Storing p table₀ (set (set table (2 * k) o) (2 * k + 1) n) most count at (k + 1) (o + n)
         unfolding readStrings
         storing-more o n g = record {
           parts = f .parts ++ (partOf p o n ∷ []);
@@ -115,7 +117,9 @@ module _ {p table₀ : List ℕ} {most count at : ℕ} where
           stand = all-in-last p (f .parts) (partOf p o n) (f .stand) (part-in p o n (g .inside));
         }
           where
-            string-first : (x : Answer (List Part)) → Reads p (o + n) (readStrings most (count - (k + 1)) (k + 1)) x → Reads p next (readStrings most (count - k) k) (after (partOf p o n ∷ []) x)
+            string-first :
+                (x : Answer (List Part)) → Reads p (o + n) (readStrings most (count - (k + 1)) (k + 1)) x →
+                Reads p next (readStrings most (count - k) k) (after (partOf p o n ∷ []) x)
             string-first x y = rw one (reads-here _ (reads-must _ _ (lt-ltb k most l) (reads-then _ g (in-front _ x (rw add-one at y)))))
 
     pub storing-all : count ≤ k → Stored p table₀ table most count at k next
@@ -142,7 +146,8 @@ module _ {p : List ℕ} (most : ℕ) where
     unfolding readPool
     no-strings h = reads-then _ g h .is 0 0
 
-    accepted : {table table′ : List ℕ} {n next : ℕ} → 2 * most ≤ length table → Stored p table table′ most count first n next → Accepted p table table′ most n next
+    accepted :
+        {table table′ : List ℕ} {n next : ℕ} → 2 * most ≤ length table → Stored p table table′ most count first n next → Accepted p table table′ most n next
     unfolding readPool
     accepted {table} {table′} {n} h f =
         let words : take (2 * n) table′ ≡ partsWords (f .parts) = rw (f .stored) (words-stored table (f .parts) n (f .each) (omega (arith, f .fits))) in
@@ -157,6 +162,7 @@ module _ {p : List ℕ} (most : ℕ) where
           strings-inside = rw words (f .strings-inside);
         }
 
-    pub pool-read : {table table′ : List ℕ} {r : PoolAt} → 2 * most ≤ length table → StringsRead p table table′ most count first r → PoolRead p table table′ most r
+    pub pool-read :
+        {table table′ : List ℕ} {r : PoolAt} → 2 * most ≤ length table → StringsRead p table table′ most count first r → PoolRead p table table′ most r
     pool-read {r = pool-at.Pool n next} h f = record { outcome = accepted h (f .outcome) }
     pool-read {r = pool-at.Refused n q} h f = record { outcome = no-strings (f .outcome) }

@@ -45,19 +45,29 @@ string-is : (p : List ℕ) (o n q m : ℕ) → o + n ≤ length p → q + m ≤ 
 unfolding sameString
 string-is p o n q m h k = by (eqb n m) refl
   where
-    offsets : (r : Bool) → eqb o q ≡ r → q + n ≤ length p → (eqb o q || (stands p o n && (stands p q n && same (take n (drop o p)) (take n (drop q p))))) ≡ same (take n (drop o p)) (take n (drop q p))
+    offsets :
+        (r : Bool) → eqb o q ≡ r → q + n ≤ length p →
+        (eqb o q || (stands p o n && (stands p q n && same (take n (drop o p)) (take n (drop q p))))) ≡ same (take n (drop o p)) (take n (drop q p))
     offsets true e l = let z : o ≡ q = eqb-true o q e in rw (e, z) (sym (same-refl (take n (drop q p))))
     offsets false e l = rw (e, stands-is p o n h, stands-is p q n l)
-    by : (r : Bool) → eqb n m ≡ r → (eqb n m && (eqb o q || (stands p o n && (stands p q n && same (take n (drop o p)) (take n (drop q p)))))) ≡ same (take n (drop o p)) (take m (drop q p))
+
+    by :
+        (r : Bool) → eqb n m ≡ r →
+        (eqb n m && (eqb o q || (stands p o n && (stands p q n && same (take n (drop o p)) (take n (drop q p))))))
+        ≡ same (take n (drop o p)) (take m (drop q p))
     by true e = let z : n ≡ m = eqb-true n m e in rw (e, ← z) (offsets (eqb o q) refl (omega arith))
     by false e = rw e (sym (same-long (take n (drop o p)) (take m (drop q p)) (λ l. eqb-false n m e (sym (length-part p o n h) ∙ l ∙ length-part p q m k))))
 
 module _ (p : List ℕ) where
-  values-same : (t a b c d : ℕ) → (t ≡ 6 → a + b ≤ length p) → (t ≡ 6 → c + d ≤ length p) → cond (eqb t 6) (sameString p a b c d) (eqb a c) ≡ same (keyValue p t a b) (keyValue p t c d)
+  values-same :
+      (t a b c d : ℕ) → (t ≡ 6 → a + b ≤ length p) → (t ≡ 6 → c + d ≤ length p) →
+      cond (eqb t 6) (sameString p a b c d) (eqb a c) ≡ same (keyValue p t a b) (keyValue p t c d)
   unfolding keyValue same
   values-same t a b c d h k = by (eqb t 6) refl
     where
-      by : (r : Bool) → eqb t 6 ≡ r → cond (eqb t 6) (sameString p a b c d) (eqb a c) ≡ same (cond (eqb t 6) (take b (drop a p)) (a ∷ [])) (cond (eqb t 6) (take d (drop c p)) (c ∷ []))
+      by :
+          (r : Bool) → eqb t 6 ≡ r →
+          cond (eqb t 6) (sameString p a b c d) (eqb a c) ≡ same (cond (eqb t 6) (take b (drop a p)) (a ∷ [])) (cond (eqb t 6) (take d (drop c p)) (c ∷ []))
       by true e = rw e (string-is p a b c d (h (eqb-true t 6 e)) (k (eqb-true t 6 e)))
       by false e = rw e (sym (and-true (eqb a c)))
 
@@ -70,8 +80,11 @@ module _ (p : List ℕ) where
       by true e = let z : t ≡ u = eqb-true t u e in rw (e, ← z) (values-same t a b c d h (λ q. k (sym z ∙ q)))
       by false e = rw e
 
-  pub nodes-same : {t u : Node Part} → KeyNode p t → KeyNode p u → (r s : List ℕ) → sameKey p (rowTable (single t) ++ r) (rowTable (single u) ++ s) ≡ same (nodeKey t) (nodeKey u)
-  nodes-same {t} {u} g h r s = rw (g .words, h .words, g .value, h .value) (keys-same (t .tag) (u .tag) (g .first) (g .second) (h .first) (h .second) _ _ (g .inside) (h .inside))
+  pub nodes-same :
+      {t u : Node Part} → KeyNode p t → KeyNode p u → (r s : List ℕ) →
+      sameKey p (rowTable (single t) ++ r) (rowTable (single u) ++ s) ≡ same (nodeKey t) (nodeKey u)
+  nodes-same {t} {u} g h r s =
+      rw (g .words, h .words, g .value, h .value) (keys-same (t .tag) (u .tag) (g .first) (g .second) (h .first) (h .second) _ _ (g .inside) (h .inside))
 
 ---- rows skipped
 
@@ -91,7 +104,8 @@ count-le (withChunk ks) c = omega arith
 count-le (withFields ks) c = omega arith
 count-le (withTemplate ks) c = omega arith
 
-row-tells : (t a b c d n : ℕ) (r : List ℕ) → rowsUnder (shape t) (countIn (shape t) (a ∷ b ∷ c ∷ d ∷ [])) ≡ n → n ≤ mostRows → rowsTold (t ∷ a ∷ b ∷ c ∷ d ∷ r) ≡ n
+row-tells :
+    (t a b c d n : ℕ) (r : List ℕ) → rowsUnder (shape t) (countIn (shape t) (a ∷ b ∷ c ∷ d ∷ [])) ≡ n → n ≤ mostRows → rowsTold (t ∷ a ∷ b ∷ c ∷ d ∷ r) ≡ n
 unfolding rowsTold
 row-tells t a b c d n r e h =
     let k : countIn (shape t) (a ∷ b ∷ c ∷ d ∷ []) ≤ mostRows = omega (arith, count-le (shape t) (countIn (shape t) (a ∷ b ∷ c ∷ d ∷ []))) in
@@ -107,11 +121,15 @@ told-length (node t is ks ts) h =
 
 module _ (p key : List ℕ) (gap : ℕ) where
   -- one row of five words
-  skip-row : (skip n t a b c d m : ℕ) (r : List ℕ) → rowsTold (t ∷ a ∷ b ∷ c ∷ d ∷ r) ≡ m → seenIn p key gap (suc skip) (suc n) (t ∷ a ∷ b ∷ c ∷ d ∷ r) ≡ seenIn p key gap (skip + m) n r
+  skip-row :
+      (skip n t a b c d m : ℕ) (r : List ℕ) → rowsTold (t ∷ a ∷ b ∷ c ∷ d ∷ r) ≡ m →
+      seenIn p key gap (suc skip) (suc n) (t ∷ a ∷ b ∷ c ∷ d ∷ r) ≡ seenIn p key gap (skip + m) n r
   unfolding seenIn
   skip-row skip n t a b c d m r e = ap (λ (k : ℕ). seenIn p key gap (skip + k) n r) e
 
-  pub skip-trees : (ts : Trees Part) → Told ts → size ts ≤ mostRows → (skip n : ℕ) (rest : List ℕ) → seenIn p key gap (rootCount ts + skip) (size ts + n) (rowTable ts ++ rest) ≡ seenIn p key gap skip n rest
+  pub skip-trees :
+      (ts : Trees Part) → Told ts → size ts ≤ mostRows → (skip n : ℕ) (rest : List ℕ) →
+      seenIn p key gap (rootCount ts + skip) (size ts + n) (rowTable ts ++ rest) ≡ seenIn p key gap skip n rest
   unfolding rootCount size rowTable Told
   skip-trees nil h k skip n rest = rw (zero-add skip, zero-add n)
   skip-trees (node t is ks ts) h k skip n rest =
@@ -119,13 +137,14 @@ module _ (p key : List ℕ) (gap : ℕ) where
       let e₁ : suc (rootCount ts) + skip ≡ suc (rootCount ts + skip) = omega arith in
       let e₂ : suc (size ks) + size ts + n ≡ suc (size ks + (size ts + n)) = omega arith in
       let e₃ : rootCount ts + skip + rootCount ks ≡ rootCount ks + (rootCount ts + skip) = omega arith in
-      let l : ((rowWords t is (rootCount ks) ++ rowTable ks) ++ rowTable ts) ++ rest ≡ t ∷ w .a ∷ w .b ∷ w .c ∷ w .d ∷ (rowTable ks ++ (rowTable ts ++ rest)) = rw (w .words) (simp append-assoc) in
+      let l : ((rowWords t is (rootCount ks) ++ rowTable ks) ++ rowTable ts) ++ rest ≡ t ∷ w .a ∷ w .b ∷ w .c ∷ w .d ∷ (rowTable ks ++ (rowTable ts ++ rest)) = rw
+      (w .words) (simp append-assoc) in
       let b : rootCount ks ≤ mostRows = omega (arith, roots-le ks) in
       rw (l, e₁, e₂)
-      (skip-row (rootCount ts + skip) (size ks + (size ts + n)) t (w .a) (w .b) (w .c) (w .d) (rootCount ks) _ (row-tells t (w .a) (w .b) (w .c) (w .d) (rootCount ks) _ (w .told) b)
+      (skip-row (rootCount ts + skip) (size ks + (size ts + n)) t (w .a) (w .b) (w .c) (w .d) (rootCount ks) _
+      (row-tells t (w .a) (w .b) (w .c) (w .d) (rootCount ks) _ (w .told) b)
       ∙ ap (λ (m : ℕ). seenIn p key gap m (size ks + (size ts + n)) (rowTable ks ++ (rowTable ts ++ rest))) e₃
-      ∙ skip-trees ks (h .1) (omega arith) (rootCount ts + skip) (size ts + n) (rowTable ts ++ rest)
-      ∙ skip-trees ts (h .2) (omega arith) skip n rest)
+      ∙ skip-trees ks (h .1) (omega arith) (rootCount ts + skip) (size ts + n) (rowTable ts ++ rest) ∙ skip-trees ts (h .2) (omega arith) skip n rest)
 
 ---- entries: a key, and what stands between it and the next key
 
@@ -180,23 +199,29 @@ module _ (p : List ℕ) (gap : ℕ) {t : Node Part} (k : KeyNode p t) (more : Li
   row = rowTable (single t) ++ more
 
   -- one key, and what stands after it
-  key-row : (e : Entry) → Good p gap e → (n : ℕ) (rest : List ℕ) → size (e .value) ≤ mostRows →
-      seenIn p row gap 0 (suc (size (e .value) + n)) (rowTable (single (e .key)) ++ (rowTable (e .value) ++ rest)) ≡ (same (nodeKey t) (nodeKey (e .key)) or seenIn p row gap 0 n rest)
+  key-row :
+      (e : Entry) → Good p gap e → (n : ℕ) (rest : List ℕ) → size (e .value) ≤ mostRows →
+      seenIn p row gap 0 (suc (size (e .value) + n)) (rowTable (single (e .key)) ++ (rowTable (e .value) ++ rest))
+      ≡ (same (nodeKey t) (nodeKey (e .key)) or seenIn p row gap 0 n rest)
   unfolding seenIn
   key-row e g n rest h =
       let five : drop rowWidth (rowTable (single (e .key)) ++ (rowTable (e .value) ++ rest)) ≡ rowTable (e .value) ++ rest = rw (g .key-node .words) in
       let z : gap ≡ rootCount (e .value) + 0 = sym (add-zero (rootCount (e .value)) ∙ g .value-roots) in
-      let s : seenIn p row gap gap (size (e .value) + n) (drop rowWidth (rowTable (single (e .key)) ++ (rowTable (e .value) ++ rest))) ≡ seenIn p row gap 0 n rest =
-          ap (seenIn p row gap gap (size (e .value) + n)) five
-          ∙ ap (λ (m : ℕ). seenIn p row gap m (size (e .value) + n) (rowTable (e .value) ++ rest)) z
-          ∙ skip-trees p row gap (e .value) (g .value-told) h 0 n rest in
+      let s : seenIn p row gap gap (size (e .value) + n) (drop rowWidth (rowTable (single (e .key)) ++ (rowTable (e .value) ++ rest)))
+      ≡ seenIn p row gap 0 n rest =
+      ap (seenIn p row gap gap (size (e .value) + n)) five
+      ∙ ap (λ (m : ℕ). seenIn p row gap m (size (e .value) + n) (rowTable (e .value) ++ rest)) z
+      ∙ skip-trees p row gap (e .value) (g .value-told) h 0 n rest in
       rw (nodes-same p k (g .key-node) more (rowTable (e .value) ++ rest), s) (or-is (same (nodeKey t) (nodeKey (e .key))) (seenIn p row gap 0 n rest))
 
-  pub seen-entries : (es : List Entry) → AllGood p gap es → entriesSize es ≤ mostRows → (rest : List ℕ) → seenIn p row gap 0 (entriesSize es) (entriesTable es ++ rest) ≡ isIn (nodeKey t) (keysOf es)
+  pub seen-entries :
+      (es : List Entry) → AllGood p gap es → entriesSize es ≤ mostRows → (rest : List ℕ) →
+      seenIn p row gap 0 (entriesSize es) (entriesTable es ++ rest) ≡ isIn (nodeKey t) (keysOf es)
   unfolding entriesTable entriesSize keysOf AllGood isIn seenIn
   seen-entries [] h b rest = refl
   seen-entries (e ∷ es) h b rest =
-      let l : (rowTable (single (e .key)) ++ (rowTable (e .value) ++ entriesTable es)) ++ rest ≡ rowTable (single (e .key)) ++ (rowTable (e .value) ++ (entriesTable es ++ rest)) = simp append-assoc in
+      let l : (rowTable (single (e .key)) ++ (rowTable (e .value) ++ entriesTable es)) ++ rest
+      ≡ rowTable (single (e .key)) ++ (rowTable (e .value) ++ (entriesTable es ++ rest)) = simp append-assoc in
       ap (seenIn p row gap 0 (suc (size (e .value) + entriesSize es))) l
       ∙ key-row e (h .0) (entriesSize es) (entriesTable es ++ rest) (omega arith)
       ∙ ap (λ (x : Bool). same (nodeKey t) (nodeKey (e .key)) or x) (seen-entries es (h .1) (omega arith) rest)

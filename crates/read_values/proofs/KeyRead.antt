@@ -28,7 +28,9 @@ use Rattle.read_values.proofs.Entries.{KeyNode, keyValue}
 
 ---- a value that was read has the tag of its shape
 
-must-ok : {A : Type 0} (b : Bool) (n q : ℕ) (s : reader.State) (f : Unit {0} → Reader A) (a : A) (z : reader.State) → andThen (must b n q s) f ≡ ok a z → (b ≡ true) × (f tt s ≡ ok a z)
+must-ok :
+    {A : Type 0} (b : Bool) (n q : ℕ) (s : reader.State) (f : Unit {0} → Reader A) (a : A) (z : reader.State) → andThen (must b n q s) f ≡ ok a z →
+    (b ≡ true) × (f tt s ≡ ok a z)
 unfolding must andThen
 must-ok true n q s f a z e = (refl, e)
 must-ok false n q s f a z e = let w : _≡_ {A = ℕ} 0 1 = cc in absurd (omega arith)
@@ -139,10 +141,19 @@ module _ (c : Capacities) (p : List ℕ) where
 
   string-key : (t : ℕ) (l : Part) → shape t ≡ withKids (ItemKind.string ∷ []) noValue → t ≡ 6 → InStore p l → KeyNode p (nodeOf t (string l ∷ []) nil)
   unfolding nodeOf single rowTable rowWords rootCount itemsWords itemWords partWords countWords kidsCountWords unusedWords kindsOf kindsWidth kindWidth nodeKey keyOf forgetItems forgetItem itemsValue itemValue keyValue
-  string-key t l e n h = record { first = l .offset; second = length (l .bytes); words = rw e; value = rw (eq-eqb t 6 n, append-nil (l .bytes)) (ap (λ (b : List ℕ). t ∷ b) (sym (h .its-bytes))); inside = λ q. h .in-store }
+  string-key t l e n h =
+      record {
+        first = l .offset;
+        second = length (l .bytes);
+        words = rw e;
+        value = rw (eq-eqb t 6 n, append-nil (l .bytes)) (ap (λ (b : List ℕ). t ∷ b) (sym (h .its-bytes)));
+        inside = λ q. h .in-store;
+      }
 
   module _ (e : Context) (rv : Reader (Node Part)) (t : ℕ) where
-    key-node : (sh : Shape) → shape t ≡ sh → keyShape t sh ≡ true → (s : reader.State) (u : Node Part) (z : reader.State) → readShape e rv t sh s ≡ ok u z → AllIn p (e .pool) → KeyNode p u
+    key-node :
+        (sh : Shape) → shape t ≡ sh → keyShape t sh ≡ true → (s : reader.State) (u : Node Part) (z : reader.State) → readShape e rv t sh s ≡ ok u z →
+        AllIn p (e .pool) → KeyNode p u
     unfolding keyShape keyKind readShape readKids readItems readItem _>>=_ _>>_ here andThen pure nodeOf
     key-node (withKids [] kk) i h s u z q held = false≢true h
     key-node (withKids (k ∷ l ∷ ks) kk) i h s u z q held = false≢true h
@@ -184,14 +195,17 @@ module _ (c : Capacities) (p : List ℕ) where
     where
       at : (k m : ℕ) → k ≡ suc (suc m) → getD (o ∷ n ∷ ws) k 0 ≡ getD ws m 0
       at k m e = rw e
+
       go : (i : ℕ) → 2 * i + 1 < length ws → getD ws (2 * i) 0 + getD ws (2 * i + 1) 0 ≤ length p
       go i l = let a = at (2 * suc i) (2 * i) (omega arith) in let b = at (2 * suc i + 1) (2 * i + 1) (omega arith) in omega (arith, h (suc i) (omega arith))
 
 -- one row, whose words are the key's
-pub key-read : (limits : Limits) (p names pool : List ℕ) {rows spans : List ℕ} {now : State} → Fit limits p rows spans now → PoolFits p pool → (d : ℕ) (t : Node Part) (z : reader.State) →
-    readValue (context limits p names pool) d (stateOf p now) ≡ ok t z → isKeyTag (t .tag) ≡ true → KeyNode p t
+pub key-read :
+    (limits : Limits) (p names pool : List ℕ) {rows spans : List ℕ} {now : State} → Fit limits p rows spans now → PoolFits p pool →
+    (d : ℕ) (t : Node Part) (z : reader.State) → readValue (context limits p names pool) d (stateOf p now) ≡ ok t z → isKeyTag (t .tag) ≡ true → KeyNode p t
 unfolding contextOf
 key-read limits p names pool {now = now} f h d t z q k =
     let s = shaped (context limits p names pool) d (stateOf p now) t z q in
     let g = shape-tag (context limits p names pool) (s .value) (s .tag) (shape (s .tag)) (s .start) t z (s .is) in
-    key-node (capacities limits) p (context limits p names pool) (s .value) (s .tag) (shape (s .tag)) refl (key-shape (s .tag) (s .low) (rw g at k)) (s .start) t z (s .is) (pool-stands (capacities limits) p pool h)
+    key-node (capacities limits) p (context limits p names pool) (s .value) (s .tag) (shape (s .tag)) refl (key-shape (s .tag) (s .low) (rw g at k)) (s .start)
+    t z (s .is) (pool-stands (capacities limits) p pool h)

@@ -28,8 +28,8 @@ at-zero rows a = let z : a + 0 ≡ a = omega arith in getD-drop a rows 0 0 ∙ a
 
 pub key-at : (p rows : List ℕ) (a b : ℕ) → sameKey p (drop a rows) (drop b rows) ≡
     (eqb (getD rows a 0) (getD rows b 0) && cond (eqb (getD rows a 0) 6)
-      (sameString p (getD rows (a + 1) 0) (getD rows (a + 2) 0) (getD rows (b + 1) 0) (getD rows (b + 2) 0))
-      (eqb (getD rows (a + 1) 0) (getD rows (b + 1) 0)))
+    (sameString p (getD rows (a + 1) 0) (getD rows (a + 2) 0) (getD rows (b + 1) 0) (getD rows (b + 2) 0))
+    (eqb (getD rows (a + 1) 0) (getD rows (b + 1) 0)))
 unfolding sameKey
 key-at p rows a b = rw (at-zero rows a, at-zero rows b, getD-drop a rows 1 0, getD-drop a rows 2 0, getD-drop b rows 1 0, getD-drop b rows 2 0)
 
@@ -87,7 +87,9 @@ module _ (rows : List ℕ) (at : ℕ) where
   words = take 4 (drop 1 row)
 
   word-at : (j : ℕ) → j < 4 → getD words j 0 ≡ getD rows (at + suc j) 0
-  word-at j h = let z : at + (1 + j) ≡ at + suc j = omega arith in getD-take 4 (drop 1 row) j 0 h ∙ getD-drop 1 row j 0 ∙ getD-drop at rows (1 + j) 0 ∙ ap (λ (k : ℕ). getD rows k 0) z
+  word-at j h =
+      let z : at + (1 + j) ≡ at + suc j = omega arith in
+      getD-take 4 (drop 1 row) j 0 h ∙ getD-drop 1 row j 0 ∙ getD-drop at rows (1 + j) 0 ∙ ap (λ (k : ℕ). getD rows k 0) z
 
   module _ (t : ℕ) (e : getD rows at 0 ≡ t) where
     told-is : rowsTold row ≡ toldBy (shape t) words
@@ -160,5 +162,8 @@ module _ (p key : List ℕ) (gap : ℕ) (rows : List ℕ) (own : ℕ) where
     unfolding seenIn
     seen-skip skip = go (own - i) left ∙ ap (seenIn p key gap (skip + rowsTold (drop (rowWidth * i) rows)) (own - (i + 1))) next
       where
-        go : (n : ℕ) → n ≡ suc (own - (i + 1)) → seenIn p key gap (suc skip) n (drop (rowWidth * i) rows) ≡ seenIn p key gap (skip + rowsTold (drop (rowWidth * i) rows)) (own - (i + 1)) (drop rowWidth (drop (rowWidth * i) rows))
+        go :
+            (n : ℕ) → n ≡ suc (own - (i + 1)) →
+            seenIn p key gap (suc skip) n (drop (rowWidth * i) rows)
+            ≡ seenIn p key gap (skip + rowsTold (drop (rowWidth * i) rows)) (own - (i + 1)) (drop rowWidth (drop (rowWidth * i) rows))
         go n e = rw e

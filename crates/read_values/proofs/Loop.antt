@@ -20,17 +20,32 @@ use Rattle.read_values.specs.declared.Step.{Step}
 use Rattle.read_values.specs.declared.Step.the-variants.{Done, Refused}
 
 -- the tables after a part that was read fit where they fitted before it
-pub fit-next : {limits : Limits} {p rows rows′ spans spans′ : List ℕ} {now next : State} → Fit limits p rows spans now →
-    next .at ≤ length p → next .rows ≤ limits .rows → next .spans ≤ limits .spans → length rows′ ≡ length rows → length spans′ ≡ length spans → Fit limits p rows′ spans′ next
-fit-next f a b c l l′ = record { place = a; used = b; covered = c; room = omega (arith, f .room, l); cover = omega (arith, f .cover, l′); few = f .few; few-spans = f .few-spans }
+pub fit-next :
+    {limits : Limits} {p rows rows′ spans spans′ : List ℕ} {now next : State} → Fit limits p rows spans now → next .at ≤ length p → next .rows ≤ limits .rows →
+    next .spans ≤ limits .spans → length rows′ ≡ length rows → length spans′ ≡ length spans → Fit limits p rows′ spans′ next
+fit-next f a b c l l′ =
+    record { place = a; used = b; covered = c; room = omega (arith, f .room, l); cover = omega (arith, f .cover, l′); few = f .few; few-spans = f .few-spans }
 
 -- no tree: nothing is stored
 pub did-none : {limits : Limits} {p rows spans : List ℕ} {now : State} → Fit limits p rows spans now →
     Did manyTrees limits p rows rows spans spans (now .rows) (now .spans) (Done now) (pure nil (stateOf p now))
 unfolding pure rowTable spanTable spanWords Told
-did-none {rows = rows} {spans = spans} f = record { out = (nil, record {
-    is = refl; wrote = sym (put-none rows _); size = omega arith; filled = sym (put-none spans _); spanned = omega arith;
-    used = f .used; covered = f .covered; place = f .place; told = tt }) }
+did-none {rows = rows} {spans = spans} f = record {
+  out = (
+    nil,
+    record {
+      is = refl;
+      wrote = sym (put-none rows _);
+      size = omega arith;
+      filled = sym (put-none spans _);
+      spanned = omega arith;
+      used = f .used;
+      covered = f .covered;
+      place = f .place;
+      told = tt;
+    },
+  );
+}
 
 -- After k trees: whatever the rest does from here, all of it does from the start.
 pub record Sofar (limits : Limits) (p rows₀ rows spans₀ spans : List ℕ) (rd : Reader (Node Part)) (st now : State) (count k : ℕ) : Type 0 where
@@ -42,26 +57,49 @@ pub record Sofar (limits : Limits) (p rows₀ rows spans₀ spans : List ℕ) (r
       Did manyTrees limits p rows₀ c spans₀ c′ (st .rows) (st .spans) r (readMany count rd (stateOf p st))
 
 -- one tree, and the rest
-step-did : (limits : Limits) (p rows rows′ spans spans′ : List ℕ) (rd : Reader (Node Part)) (now next : State) (n : ℕ) (t : Node Part) (c c′ : List ℕ) (r : Step) →
+step-did :
+    (limits : Limits) (p rows rows′ spans spans′ : List ℕ) (rd : Reader (Node Part)) (now next : State) (n : ℕ) (t : Node Part) (c c′ : List ℕ) (r : Step) →
     Ran oneTree limits p rows rows′ spans spans′ (now .rows) (now .spans) next t (rd (stateOf p now)) →
     Did manyTrees limits p rows′ c spans′ c′ (next .rows) (next .spans) r (readMany n rd (stateOf p next)) →
     Did manyTrees limits p rows c spans c′ (now .rows) (now .spans) r (readMany (suc n) rd (stateOf p now))
 unfolding readMany _>>=_ andThen pure
 step-did limits p rows rows′ spans spans′ rd now next n t c c′ (Refused m q) g d = record { out = rw (g .is, d .out) }
-step-did limits p rows rows′ spans spans′ rd now next n t c c′ (Done z) g d = record { out = (cons t (d .out .0), ran-more g (d .out .1) _ (rw (g .is, d .out .1 .is))) }
+step-did limits p rows rows′ spans spans′ rd now next n t c c′ (Done z) g d =
+    record { out = (cons t (d .out .0), ran-more g (d .out .1) _ (rw (g .is, d .out .1 .is))) }
 
 -- one tree alone
 pub did-one : {limits : Limits} {p a b a′ b′ : List ℕ} {i j : ℕ} (rd : Reader (Node Part)) (s : reader.State) (r : Step) →
     Did oneTree limits p a b a′ b′ i j r (rd s) → Did manyTrees limits p a b a′ b′ i j r (readMany 1 rd s)
 unfolding readMany _>>=_ andThen pure single cons
 did-one rd s (Refused m q) d = record { out = rw (d .out) }
-did-one rd s (Done z) d = let g = d .out .1 in record { out = (cons (d .out .0) nil, record {
-    is = rw (g .is); wrote = g .wrote; size = g .size; filled = g .filled; spanned = g .spanned; used = g .used; covered = g .covered; place = g .place; told = g .told }) }
+did-one rd s (Done z) d =
+    let g = d .out .1 in
+    record {
+      out = (
+        cons (d .out .0) nil,
+        record {
+          is = rw (g .is);
+          wrote = g .wrote;
+          size = g .size;
+          filled = g .filled;
+          spanned = g .spanned;
+          used = g .used;
+          covered = g .covered;
+          place = g .place;
+          told = g .told;
+        },
+      );
+    }
 
 module _ {limits : Limits} {p : List ℕ} {rows₀ spans₀ : List ℕ} {rd : Reader (Node Part)} {st : State} {count : ℕ} where
   pub sofar-start : Fit limits p rows₀ spans₀ st → Sofar limits p rows₀ rows₀ spans₀ spans₀ rd st st count 0
-  sofar-start f = record { fit = f; upto = omega arith; same = refl; same-spans = refl;
-      rest = λ c c′ r d. let e : count - 0 ≡ count = omega arith in rw e at d }
+  sofar-start f = record {
+    fit = f;
+    upto = omega arith;
+    same = refl;
+    same-spans = refl;
+    rest = λ c c′ r d. let e : count - 0 ≡ count = omega arith in rw e at d;
+  }
 
   pub sofar-next : {rows rows′ spans spans′ : List ℕ} {now next : State} {k : ℕ} {r : Step} →
       (s : Sofar limits p rows₀ rows spans₀ spans rd st now count k) → k < count → r ≡ Done next →
@@ -71,11 +109,17 @@ module _ {limits : Limits} {p : List ℕ} {rows₀ spans₀ : List ℕ} {rd : Re
       let g = ran-of e d in
       record {
         fit = fit-next (s .fit) (g .1 .place) (g .1 .used) (g .1 .covered) l l′;
-        upto = omega arith; same = l ∙ s .same; same-spans = l′ ∙ s .same-spans;
-        rest = λ c c′ r′ d′. let z : count - k ≡ suc (count - (k + 1)) = omega arith in s .rest c c′ r′ (rw z (step-did limits p rows rows′ spans spans′ rd now next (count - (k + 1)) (g .0) c c′ r′ (g .1) d′)) }
+        upto = omega arith;
+        same = l ∙ s .same;
+        same-spans = l′ ∙ s .same-spans;
+        rest = λ c c′ r′ d′.
+            let z : count - k ≡ suc (count - (k + 1)) = omega arith in
+            s .rest c c′ r′ (rw z (step-did limits p rows rows′ spans spans′ rd now next (count - (k + 1)) (g .0) c c′ r′ (g .1) d′));
+      }
 
-  pub sofar-end : {rows spans : List ℕ} {now : State} {k : ℕ} →
-      Sofar limits p rows₀ rows spans₀ spans rd st now count k → count ≤ k → Did manyTrees limits p rows₀ rows spans₀ spans (st .rows) (st .spans) (Done now) (readMany count rd (stateOf p st))
+  pub sofar-end :
+      {rows spans : List ℕ} {now : State} {k : ℕ} → Sofar limits p rows₀ rows spans₀ spans rd st now count k → count ≤ k →
+      Did manyTrees limits p rows₀ rows spans₀ spans (st .rows) (st .spans) (Done now) (readMany count rd (stateOf p st))
   unfolding readMany
   sofar-end {rows = rows} {spans = spans} {now = now} {k = k} s h =
       let z : count - k ≡ 0 = omega arith in

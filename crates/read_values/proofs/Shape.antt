@@ -29,14 +29,18 @@ module _ (e : Context) (rv : Reader (Node Part)) where
     abbrev pub filled : Shape → Heading → Reader (Node Part)
     filled sh h = readUnder e rv sh (h .count) >>= λ ts. pure (nodeOf t (h .items) ts)
 
-    many-two : (f : ℕ → Reader (Trees Part)) (is : List (Item Part)) (v : Result ℕ) →
-        andThen (andThen v f) (λ ts. pure (nodeOf t is ts)) ≡ andThen (andThen v (λ n. pure (heading is n))) (λ h. f (h .count) >>= λ ts. pure (nodeOf t (h .items) ts))
+    many-two :
+        (f : ℕ → Reader (Trees Part)) (is : List (Item Part)) (v : Result ℕ) →
+        andThen (andThen v f) (λ ts. pure (nodeOf t is ts))
+        ≡ andThen (andThen v (λ n. pure (heading is n))) (λ h. f (h .count) >>= λ ts. pure (nodeOf t (h .items) ts))
     unfolding andThen _>>=_ pure
     many-two f is (ok n s) = refl
     many-two f is (refused n q) = refl
 
-    many-three : (f : ℕ → Reader (Trees Part)) (is : List (Item Part)) (v : Result ℕ) →
-        andThen v (λ n. f n >>= λ ts. pure (nodeOf t is ts)) ≡ andThen (andThen v (λ n. pure (heading is n))) (λ h. f (h .count) >>= λ ts. pure (nodeOf t (h .items) ts))
+    many-three :
+        (f : ℕ → Reader (Trees Part)) (is : List (Item Part)) (v : Result ℕ) →
+        andThen v (λ n. f n >>= λ ts. pure (nodeOf t is ts))
+        ≡ andThen (andThen v (λ n. pure (heading is n))) (λ h. f (h .count) >>= λ ts. pure (nodeOf t (h .items) ts))
     unfolding andThen _>>=_ pure
     many-three f is (ok n s) = refl
     many-three f is (refused n q) = refl
@@ -45,44 +49,67 @@ module _ (e : Context) (rv : Reader (Node Part)) where
     unfolding readShape readKids readHead readCount readKidsCount kindsOf readUnder _>>=_ andThen pure readMany readOne noTemplate
     shape-head (withKids ks noValue) s h = go (readItems e ks s)
       where
-        go : (m : Result (List (Item Part))) → andThen m (λ is. pure nil >>= λ ts. pure (nodeOf t is ts)) ≡ andThen (andThen m (λ is. pure 0 >>= λ n. pure (heading is n))) (λ h. readMany (h .count) rv >>= λ ts. pure (nodeOf t (h .items) ts))
+        go :
+            (m : Result (List (Item Part))) →
+            andThen m (λ is. pure nil >>= λ ts. pure (nodeOf t is ts))
+            ≡ andThen (andThen m (λ is. pure 0 >>= λ n. pure (heading is n))) (λ h. readMany (h .count) rv >>= λ ts. pure (nodeOf t (h .items) ts))
         go (ok is z) = refl
         go (refused n q) = refl
     shape-head (withKids ks oneValue) s h = go (readItems e ks s)
       where
-        go : (m : Result (List (Item Part))) → andThen m (λ is. readOne rv >>= λ ts. pure (nodeOf t is ts)) ≡ andThen (andThen m (λ is. pure 1 >>= λ n. pure (heading is n))) (λ h. readMany (h .count) rv >>= λ ts. pure (nodeOf t (h .items) ts))
+        go :
+            (m : Result (List (Item Part))) →
+            andThen m (λ is. readOne rv >>= λ ts. pure (nodeOf t is ts))
+            ≡ andThen (andThen m (λ is. pure 1 >>= λ n. pure (heading is n))) (λ h. readMany (h .count) rv >>= λ ts. pure (nodeOf t (h .items) ts))
         go (ok is z) = refl
         go (refused n q) = refl
     shape-head (withKids ks values) s h = go (readItems e ks s)
       where
-        go : (m : Result (List (Item Part))) → andThen m (λ is. (varint >>= λ n. readMany n rv) >>= λ ts. pure (nodeOf t is ts)) ≡ andThen (andThen m (λ is. varint >>= λ n. pure (heading is n))) (λ h. readMany (h .count) rv >>= λ ts. pure (nodeOf t (h .items) ts))
+        go :
+            (m : Result (List (Item Part))) →
+            andThen m (λ is. (varint >>= λ n. readMany n rv) >>= λ ts. pure (nodeOf t is ts))
+            ≡ andThen (andThen m (λ is. varint >>= λ n. pure (heading is n))) (λ h. readMany (h .count) rv >>= λ ts. pure (nodeOf t (h .items) ts))
         go (ok is z) = many-two (λ n. readMany n rv) is (varint z)
         go (refused n q) = refl
     shape-head (withKids ks keys) s h = go (readItems e ks s)
       where
-        go : (m : Result (List (Item Part))) → andThen m (λ is. (varint >>= λ n. readKeys n [] rv) >>= λ ts. pure (nodeOf t is ts)) ≡ andThen (andThen m (λ is. varint >>= λ n. pure (heading is n))) (λ h. readKeys (h .count) [] rv >>= λ ts. pure (nodeOf t (h .items) ts))
+        go :
+            (m : Result (List (Item Part))) →
+            andThen m (λ is. (varint >>= λ n. readKeys n [] rv) >>= λ ts. pure (nodeOf t is ts))
+            ≡ andThen (andThen m (λ is. varint >>= λ n. pure (heading is n))) (λ h. readKeys (h .count) [] rv >>= λ ts. pure (nodeOf t (h .items) ts))
         go (ok is z) = many-two (λ n. readKeys n [] rv) is (varint z)
         go (refused n q) = refl
     shape-head (withKids ks pairs) s h = go (readItems e ks s)
       where
-        go : (m : Result (List (Item Part))) → andThen m (λ is. (varint >>= λ n. readPairs n [] rv) >>= λ ts. pure (nodeOf t is ts)) ≡ andThen (andThen m (λ is. varint >>= λ n. pure (heading is n))) (λ h. readPairs (h .count) [] rv >>= λ ts. pure (nodeOf t (h .items) ts))
+        go :
+            (m : Result (List (Item Part))) →
+            andThen m (λ is. (varint >>= λ n. readPairs n [] rv) >>= λ ts. pure (nodeOf t is ts))
+            ≡ andThen (andThen m (λ is. varint >>= λ n. pure (heading is n))) (λ h. readPairs (h .count) [] rv >>= λ ts. pure (nodeOf t (h .items) ts))
         go (ok is z) = many-two (λ n. readPairs n [] rv) is (varint z)
         go (refused n q) = refl
     shape-head (withChunk ks) s h = go (readItems e ks s)
       where
-        go : (m : Result (List (Item Part))) → andThen m (λ is. readOne (chunkRow e rv) >>= λ ts. pure (nodeOf t is ts)) ≡ andThen (andThen m (λ is. pure 1 >>= λ n. pure (heading is n))) (λ h. readMany (h .count) (chunkRow e rv) >>= λ ts. pure (nodeOf t (h .items) ts))
+        go :
+            (m : Result (List (Item Part))) →
+            andThen m (λ is. readOne (chunkRow e rv) >>= λ ts. pure (nodeOf t is ts))
+            ≡ andThen (andThen m (λ is. pure 1 >>= λ n. pure (heading is n))) (λ h. readMany (h .count) (chunkRow e rv) >>= λ ts. pure (nodeOf t (h .items) ts))
         go (ok is z) = refl
         go (refused n q) = refl
     shape-head (withFields ks) s h = go (readItems e ks s)
       where
-        go : (m : Result (List (Item Part))) → andThen m (λ is. varint >>= λ n. readMany n (fieldRow e rv) >>= λ ts. pure (nodeOf t is ts)) ≡ andThen (andThen m (λ is. varint >>= λ n. pure (heading is n))) (λ h. readMany (h .count) (fieldRow e rv) >>= λ ts. pure (nodeOf t (h .items) ts))
+        go :
+            (m : Result (List (Item Part))) →
+            andThen m (λ is. varint >>= λ n. readMany n (fieldRow e rv) >>= λ ts. pure (nodeOf t is ts))
+            ≡ andThen (andThen m (λ is. varint >>= λ n. pure (heading is n))) (λ h. readMany (h .count) (fieldRow e rv) >>= λ ts. pure (nodeOf t (h .items) ts))
         go (ok is z) = many-three (λ n. readMany n (fieldRow e rv)) is (varint z)
         go (refused n q) = refl
     shape-head (withTemplate ks) s h = false≢true h
 
     -- a closure: its template, and then its head and the captured values
-    closed-by : (f : Node Part) (is : List (Item Part)) (v : Result ℕ) →
-        andThen v (λ n. readMany n rv >>= λ ts. pure (nodeOf t is (cons f ts))) ≡ andThen (andThen v (λ n. pure (heading is n))) (λ h. readMany (h .count) rv >>= λ ts. pure (nodeOf t (h .items) (cons f ts)))
+    closed-by :
+        (f : Node Part) (is : List (Item Part)) (v : Result ℕ) →
+        andThen v (λ n. readMany n rv >>= λ ts. pure (nodeOf t is (cons f ts)))
+        ≡ andThen (andThen v (λ n. pure (heading is n))) (λ h. readMany (h .count) rv >>= λ ts. pure (nodeOf t (h .items) (cons f ts)))
     unfolding andThen _>>=_ pure
     closed-by f is (ok n s) = refl
     closed-by f is (refused n q) = refl
@@ -96,11 +123,17 @@ module _ (e : Context) (rv : Reader (Node Part)) where
       unfolding readShape _>>=_ _>>_ andThen here must
       closure-other h = rw (is, ne-eqb _ _ h)
 
-      pub closure-head : f .tag ≡ 7 → readShape e rv t (withTemplate ks) s ≡ andThen (readHead e (withTemplate ks) s′) (λ h. readMany (h .count) rv >>= λ ts. pure (nodeOf t (h .items) (cons f ts)))
+      pub closure-head :
+          f .tag ≡ 7 →
+          readShape e rv t (withTemplate ks) s
+          ≡ andThen (readHead e (withTemplate ks) s′) (λ h. readMany (h .count) rv >>= λ ts. pure (nodeOf t (h .items) (cons f ts)))
       unfolding readShape _>>=_ _>>_ andThen here must readHead readCount kindsOf pure
       closure-head h = rw (is, eq-eqb _ _ h) (go (readItems e ks s′))
         where
-          go : (m : Result (List (Item Part))) → andThen m (λ is. varint >>= λ n. readMany n rv >>= λ ts. pure (nodeOf t is (cons f ts))) ≡ andThen (andThen m (λ is. varint >>= λ n. pure (heading is n))) (λ h. readMany (h .count) rv >>= λ ts. pure (nodeOf t (h .items) (cons f ts)))
+          go :
+              (m : Result (List (Item Part))) →
+              andThen m (λ is. varint >>= λ n. readMany n rv >>= λ ts. pure (nodeOf t is (cons f ts)))
+              ≡ andThen (andThen m (λ is. varint >>= λ n. pure (heading is n))) (λ h. readMany (h .count) rv >>= λ ts. pure (nodeOf t (h .items) (cons f ts)))
           go (ok is z) = closed-by f is (varint z)
           go (refused n q) = refl
 
@@ -146,7 +179,8 @@ module _ (e : Context) (rv : Reader (Node Part)) where
       let d = invert (readKeys n (nodeKey (a .0) ∷ seen) rv (b .1)) _ ts z (b .3) in
       let w : cons (a .0) (d .0) ≡ ts = cc in rw (← w) (ap suc (keys-count n (nodeKey (a .0) ∷ seen) (b .1) (d .0) (d .1) (d .2)))
 
-  pub pairs-count : (n : ℕ) (seen : List (List ℕ)) (s : reader.State) (ts : Trees Part) (z : reader.State) → readPairs n seen rv s ≡ ok ts z → rootCount ts ≡ 2 * n
+  pub pairs-count :
+      (n : ℕ) (seen : List (List ℕ)) (s : reader.State) (ts : Trees Part) (z : reader.State) → readPairs n seen rv s ≡ ok ts z → rootCount ts ≡ 2 * n
   unfolding readPairs _>>=_ _>>_ pure here andThen rootCount cons
   pairs-count zero seen s ts z q = let w : nil ≡ ts = cc in rw (← w)
   pairs-count (suc n) seen s ts z q =
@@ -157,7 +191,9 @@ module _ (e : Context) (rv : Reader (Node Part)) where
       let w : cons (a .0) (cons (v .0) (d .0)) ≡ ts = cc in let k = pairs-count n (nodeKey (a .0) ∷ seen) (b .1) (d .0) (d .1) (d .2) in rw (← w) (omega arith)
 
   -- as many as the count says
-  pub under-count : (sh : Shape) (n : ℕ) (s : reader.State) (ts : Trees Part) (z : reader.State) → noTemplate sh ≡ true → readUnder e rv sh n s ≡ ok ts z → rowsUnder sh n ≡ rootCount ts
+  pub under-count :
+      (sh : Shape) (n : ℕ) (s : reader.State) (ts : Trees Part) (z : reader.State) → noTemplate sh ≡ true → readUnder e rv sh n s ≡ ok ts z →
+      rowsUnder sh n ≡ rootCount ts
   unfolding readUnder rowsUnder noTemplate
   under-count (withKids ks noValue) n s ts z h q = sym (many-count rv n s ts z q)
   under-count (withKids ks oneValue) n s ts z h q = sym (many-count rv n s ts z q)
@@ -187,11 +223,14 @@ module _ (e : Context) (rv : Reader (Node Part)) where
 
   ---- a chunk or field row: room for it, then its shape
 
-  pub row-full : (p : List ℕ) (i ro sp t : ℕ) (ks : List ItemKind) (kk : Kids) → e .capacities .maxRows ≤ ro → readUntagged e rv t ks kk (stateAt p i ro sp) ≡ refused 22 i
+  pub row-full :
+      (p : List ℕ) (i ro sp t : ℕ) (ks : List ItemKind) (kk : Kids) → e .capacities .maxRows ≤ ro → readUntagged e rv t ks kk (stateAt p i ro sp) ≡ refused 22 i
   unfolding readUntagged _>>_ andThen newRow must
   row-full p i ro sp t ks kk h = rw (le-ltb _ _ h)
 
-  pub row-room : (p : List ℕ) (i ro sp t : ℕ) (ks : List ItemKind) (kk : Kids) → ro < e .capacities .maxRows → readUntagged e rv t ks kk (stateAt p i ro sp) ≡ readShape e rv t (withKids ks kk) (stateAt p i (ro + 1) sp)
+  pub row-room :
+      (p : List ℕ) (i ro sp t : ℕ) (ks : List ItemKind) (kk : Kids) → ro < e .capacities .maxRows →
+      readUntagged e rv t ks kk (stateAt p i ro sp) ≡ readShape e rv t (withKids ks kk) (stateAt p i (ro + 1) sp)
   unfolding readUntagged readShape _>>_ andThen newRow must
   row-room p i ro sp t ks kk h = rw (lt-ltb _ _ h, add-one ro)
 
@@ -233,7 +272,9 @@ module _ (e : Context) (p : List ℕ) (i ro sp : ℕ) where
       value-full zero z f = absurd (z refl)
       value-full (suc d) z f = rw (byte-in h, le-leb _ _ g, le-ltb _ _ f)
 
-      pub value-shape : (d : ℕ) → (d ≡ 0 → ⊥) → ro < e .capacities .maxRows → readValue e d (stateAt p i ro sp) ≡ readShape e (readValue e (d - 1)) (getD p i 0) (shape (getD p i 0)) (stateAt p (i + 1) (ro + 1) sp)
+      pub value-shape :
+          (d : ℕ) → (d ≡ 0 → ⊥) → ro < e .capacities .maxRows →
+          readValue e d (stateAt p i ro sp) ≡ readShape e (readValue e (d - 1)) (getD p i 0) (shape (getD p i 0)) (stateAt p (i + 1) (ro + 1) sp)
       unfolding readValue _>>=_ _>>_ andThen here must newRow
       value-shape zero z f = absurd (z refl)
       value-shape (suc d) z f = let y : suc d - 1 ≡ d = omega arith in rw (byte-in h, le-leb _ _ g, lt-ltb _ _ f, y, add-one ro)

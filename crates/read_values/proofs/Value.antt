@@ -50,14 +50,16 @@ module _ {p spans spans′ : List ℕ} {used most i : ℕ} {r : CodeAt} where
   pub code-of : {o n next : ℕ} → r ≡ code-at.Code o n next → CodeRead p spans spans′ used most i r → Accepted p spans spans′ used most i o n next
   code-of e g = (rw e at g) .outcome
 
-  pub no-code-of : {n q : ℕ} → r ≡ code-at.Refused n q → CodeRead p spans spans′ used most i r → (rows : ℕ) → readCode most (stateAt p i rows used) ≡ refused n q
+  pub no-code-of :
+      {n q : ℕ} → r ≡ code-at.Refused n q → CodeRead p spans spans′ used most i r → (rows : ℕ) → readCode most (stateAt p i rows used) ≡ refused n q
   no-code-of e g = (rw e at g) .outcome
 
 ---- a row of a shape: its head is read, its words stored, and what is under it read
 
 -- the row's words, and that they tell the count
-pub row-told : (t : ℕ) (sh : Shape) → shape t ≡ sh → (is : List (Item Part)) (n m : ℕ) {a b c d : ℕ} → headWords sh is n ≡ a ∷ b ∷ c ∷ d ∷ [] → countIn sh (a ∷ b ∷ c ∷ d ∷ []) ≡ n → rowsUnder sh n ≡ m →
-    (rowWords t is m ≡ t ∷ a ∷ b ∷ c ∷ d ∷ []) × RowTold t is m
+pub row-told :
+    (t : ℕ) (sh : Shape) → shape t ≡ sh → (is : List (Item Part)) (n m : ℕ) {a b c d : ℕ} → headWords sh is n ≡ a ∷ b ∷ c ∷ d ∷ [] →
+    countIn sh (a ∷ b ∷ c ∷ d ∷ []) ≡ n → rowsUnder sh n ≡ m → (rowWords t is m ≡ t ∷ a ∷ b ∷ c ∷ d ∷ []) × RowTold t is m
 unfolding rowWords headWords
 row-told t sh e is n m {a} {b} {c} {d} w k h =
     let ws : rowWords t is m ≡ t ∷ a ∷ b ∷ c ∷ d ∷ [] = rw (e, ← h) (ap (λ (l : List ℕ). t ∷ l) w) in
@@ -72,7 +74,9 @@ module _ (limits : Limits) (p names pool : List ℕ) (rv : Reader (Node Part)) (
   did-shape i {a′ = a′} {own = own} {sp = sp} {x = x} {y = y} {z = z} {w = w} {n = n} {next = next} h wr d =
       rw (shape-head (context limits p names pool) rv t sh (stateAt p i (own + 1) sp) plain, h .is (capacities limits) .is (own + 1) sp)
       (did-node t (h .items) (t ∷ x ∷ y ∷ z ∷ w ∷ []) [] wr refl (sym (put-none a′ (2 * sp))) (omega arith) (ap spanWords (sym (h .no-spans)))
-          (λ ts s e. row-told t sh its-shape (h .items) n (rootCount ts) (h .words) (h .told) (under-count (context limits p names pool) rv sh n (stateAt p next (own + 1) sp) ts s plain e)) d)
+      (λ ts s e.
+      row-told t sh its-shape (h .items) n (rootCount ts) (h .words) (h .told)
+      (under-count (context limits p names pool) rv sh n (stateAt p next (own + 1) sp) ts s plain e)) d)
 
   pub no-shape : (own sp i : ℕ) {n q : ℕ} → HeadOut p names pool i sh (head.Refused n q) →
       readShape (context limits p names pool) rv t sh (stateAt p i (own + 1) sp) ≡ refused n q
@@ -80,44 +84,73 @@ module _ (limits : Limits) (p names pool : List ℕ) (rv : Reader (Node Part)) (
   no-shape own sp i h = rw (shape-head (context limits p names pool) rv t sh (stateAt p i (own + 1) sp) plain, h (capacities limits) .is (own + 1) sp)
 
   -- nothing follows the head
-  pub did-leaf : (i : ℕ) {a b a′ : List ℕ} {own sp : ℕ} {x y z w n next : ℕ} →
-      RowRead p names pool i sh x y z w n next → b ≡ put a (rowWidth * own) (t ∷ x ∷ y ∷ z ∷ w ∷ []) → n ≡ 0 → Fit limits p b a′ (record { at = next; rows = own + 1; spans = sp }) →
-      Did oneTree limits p a b a′ a′ own sp (Done (record { at = next; rows = own + 1; spans = sp })) (readShape (context limits p names pool) rv t sh (stateAt p i (own + 1) sp))
+  pub did-leaf :
+      (i : ℕ) {a b a′ : List ℕ} {own sp : ℕ} {x y z w n next : ℕ} → RowRead p names pool i sh x y z w n next →
+      b ≡ put a (rowWidth * own) (t ∷ x ∷ y ∷ z ∷ w ∷ []) → n ≡ 0 → Fit limits p b a′ (record { at = next; rows = own + 1; spans = sp }) →
+      Did oneTree limits p a b a′ a′ own sp (Done (record { at = next; rows = own + 1; spans = sp }))
+      (readShape (context limits p names pool) rv t sh (stateAt p i (own + 1) sp))
   unfolding pure
-  did-leaf i {own = own} {sp = sp} {next = next} h wr z f = did-shape i h wr (rw (z, under-none (context limits p names pool) rv sh (stateAt p next (own + 1) sp)) (did-none f))
+  did-leaf i {own = own} {sp = sp} {next = next} h wr z f =
+      did-shape i h wr (rw (z, under-none (context limits p names pool) rv sh (stateAt p next (own + 1) sp)) (did-none f))
 
 ---- a closure's row is stored once its template stands after it
 
-row-under : (a b c : List ℕ) (i : ℕ) (us ws : List ℕ) → length us ≡ rowWidth → b ≡ put a (rowWidth * (i + 1)) ws → c ≡ put b (rowWidth * i) us → c ≡ put a (rowWidth * i) (us ++ ws)
+row-under :
+    (a b c : List ℕ) (i : ℕ) (us ws : List ℕ) → length us ≡ rowWidth → b ≡ put a (rowWidth * (i + 1)) ws → c ≡ put b (rowWidth * i) us →
+    c ≡ put a (rowWidth * i) (us ++ ws)
 row-under a b c i us ws l w v =
     let z : rowWidth * (i + 1) ≡ rowWidth * i + length us = omega arith in
     v ∙ ap (λ (x : List ℕ). put x (rowWidth * i) us) (w ∙ ap (λ (k : ℕ). put a k ws) z) ∙ put-under a (rowWidth * i) us ws
 
-closure-spans : (t : ℕ) (is : List (Item Part)) (f : Node Part) (ts : Trees Part) → itemsSpans is ≡ [] → spanWords (spanTable (single (nodeOf t is (cons f ts)))) ≡ spanWords (spanTable (cons f ts))
+closure-spans :
+    (t : ℕ) (is : List (Item Part)) (f : Node Part) (ts : Trees Part) → itemsSpans is ≡ [] →
+    spanWords (spanTable (single (nodeOf t is (cons f ts)))) ≡ spanWords (spanTable (cons f ts))
 unfolding spanWords
 closure-spans t is f ts e = own-spans t is (cons f ts) ∙ ap (λ (m : List Span). spanWords m ++ spanWords (spanTable (cons f ts))) e
 
-pub did-closure : {limits : Limits} {p : List ℕ} {a b c e a′ b′ e′ : List ℕ} {i k j : ℕ} {mid : State} {r : Step} {f : Node Part} {x : Result (Node Part)} {y : Result (Trees Part)} (t : ℕ) (is : List (Item Part)) (row : List ℕ) →
-    i + 1 ≡ k → Ran oneTree limits p a b a′ b′ k j mid f x → c ≡ put b (rowWidth * i) row → length row ≡ rowWidth → itemsSpans is ≡ [] →
+pub did-closure :
+    {limits : Limits} {p : List ℕ} {a b c e a′ b′ e′ : List ℕ} {i k j : ℕ} {mid : State} {r : Step} {f : Node Part} {x : Result (Node Part)}
+    {y : Result (Trees Part)} (t : ℕ) (is : List (Item Part)) (row : List ℕ) → i + 1 ≡ k → Ran oneTree limits p a b a′ b′ k j mid f x →
+    c ≡ put b (rowWidth * i) row → length row ≡ rowWidth → itemsSpans is ≡ [] →
     ((ts : Trees Part) (z : reader.State) → y ≡ ok ts z → (rowWords t is (rootCount (cons f ts)) ≡ row) × RowTold t is (rootCount (cons f ts))) →
     Did manyTrees limits p c e b′ e′ (mid .rows) (mid .spans) r y → Did oneTree limits p a e a′ e′ i j r (andThen y (λ ts. pure (nodeOf t is (cons f ts))))
 unfolding andThen pure
 did-closure {r = Refused n q} t is row ik g w n5 ns h d = record { out = rw (d .out) }
 did-closure {p = p} {a = a} {b = b} {c = c} {e = e} {a′ = a′} {b′ = b′} {e′ = e′} {i = i} {j = j} {mid = mid} {r = Done s} {f = f} t is row ik g w n5 ns h d =
-    let ts = d .out .0 in let k = d .out .1 in
+    let ts = d .out .0 in
+    let k = d .out .1 in
     let m = h ts (stateOf p s) (k .is) in
-    let ws : rowTable (single (nodeOf t is (cons f ts))) ≡ row ++ (rowTable (single f) ++ rowTable ts) =
-        own-rows t is (cons f ts) ∙ ap (λ (l : List ℕ). l ++ rowTable (cons f ts)) (m .0) ∙ ap (λ (l : List ℕ). row ++ l) (cons-rows f ts) in
-    let ss : spanWords (spanTable (single (nodeOf t is (cons f ts)))) ≡ spanWords (spanTable (single f)) ++ spanWords (spanTable ts) = closure-spans t is f ts ns ∙ cons-spans f ts in
+    let ws : rowTable (single (nodeOf t is (cons f ts))) ≡ row ++ (rowTable (single f) ++ rowTable ts) = own-rows t is (cons f ts)
+    ∙ ap (λ (l : List ℕ). l ++ rowTable (cons f ts)) (m .0) ∙ ap (λ (l : List ℕ). row ++ l) (cons-rows f ts) in
+    let ss : spanWords (spanTable (single (nodeOf t is (cons f ts)))) ≡ spanWords (spanTable (single f)) ++ spanWords (spanTable ts) = closure-spans t is f ts
+    ns ∙ cons-spans f ts in
     let u = row-under a b c i row (rowTable (single f)) n5 (g .wrote ∙ ap (λ (q : ℕ). put a (rowWidth * q) (rowTable (single f))) (sym ik)) w in
     let l1 = length-append row (rowTable (single f)) in
-    record { out = (nodeOf t is (cons f ts), record {
-      is = rw (k .is);
-      wrote = two-runs a c e (rowWidth * i) (rowWidth * mid .rows) (row ++ rowTable (single f)) (rowTable ts) u (omega (arith, g .size)) (k .wrote) ∙ ap (λ (l : List ℕ). put a (rowWidth * i) l) (append-assoc row (rowTable (single f)) (rowTable ts) ∙ sym ws);
-      size = omega (arith, g .size, k .size, ap length ws, length-append row (rowTable (single f) ++ rowTable ts), length-append (rowTable (single f)) (rowTable ts));
-      filled = two-runs a′ b′ e′ (2 * j) (2 * mid .spans) (spanWords (spanTable (single f))) (spanWords (spanTable ts)) (g .filled) (g .spanned) (k .filled) ∙ ap (λ (l : List ℕ). put a′ (2 * j) l) (sym ss);
-      spanned = omega (arith, g .spanned, k .spanned, ap length ss, length-append (spanWords (spanTable (single f))) (spanWords (spanTable ts)));
-      used = k .used; covered = k .covered; place = k .place; told = own-told t is (cons f ts) (m .1) (cons-told f ts (g .told) (k .told)) }) }
+    record {
+      out = (
+        nodeOf t is (cons f ts),
+        record {
+          is = rw (k .is);
+          wrote = two-runs a c e (rowWidth * i) (rowWidth * mid .rows) (row ++ rowTable (single f)) (rowTable ts) u (omega (arith, g .size)) (k .wrote)
+              ∙ ap (λ (l : List ℕ). put a (rowWidth * i) l) (append-assoc row (rowTable (single f)) (rowTable ts) ∙ sym ws);
+          size = omega (
+            arith,
+            g .size,
+            k .size,
+            ap length ws,
+            length-append row (rowTable (single f) ++ rowTable ts),
+            length-append (rowTable (single f)) (rowTable ts),
+          );
+          filled = two-runs a′ b′ e′ (2 * j) (2 * mid .spans) (spanWords (spanTable (single f))) (spanWords (spanTable ts)) (g .filled) (g .spanned) (k .filled)
+              ∙ ap (λ (l : List ℕ). put a′ (2 * j) l) (sym ss);
+          spanned = omega (arith, g .spanned, k .spanned, ap length ss, length-append (spanWords (spanTable (single f))) (spanWords (spanTable ts)));
+          used = k .used;
+          covered = k .covered;
+          place = k .place;
+          told = own-told t is (cons f ts) (m .1) (cons-told f ts (g .told) (k .told));
+        },
+      );
+    }
 
 -- a tree's words begin with its tag
 pub some-words : (t : Node Part) → 0 < length (rowTable (single t))
@@ -138,7 +171,9 @@ shape-chunk : shape 32 ≡ withKids (ItemKind.code ∷ []) values
 unfolding shape if_then_else_
 shape-chunk = refl
 
-chunk-words : (p : List ℕ) (o n : ℕ) (ss : List Span) (m : ℕ) → o + n ≤ length p → headWords (withKids (ItemKind.code ∷ []) values) (code (partOf p o n) ss ∷ []) m ≡ o ∷ n ∷ m ∷ 0 ∷ []
+chunk-words :
+    (p : List ℕ) (o n : ℕ) (ss : List Span) (m : ℕ) → o + n ≤ length p →
+    headWords (withKids (ItemKind.code ∷ []) values) (code (partOf p o n) ss ∷ []) m ≡ o ∷ n ∷ m ∷ 0 ∷ []
 unfolding headWords rowsUnder itemsWords itemWords partWords countWords kidsCountWords unusedWords kindsWidth kindWidth kindsOf
 chunk-words p o n ss m h = let l : length (take n (drop o p)) ≡ n = simp (length-take, length-drop) (omega arith) in rw l
 
@@ -151,20 +186,29 @@ unfolding rowsUnder
 chunk-under m = refl
 
 module _ (limits : Limits) (p names pool : List ℕ) (rv : Reader (Node Part)) (i own sp : ℕ) where
-  pub no-code : {n q : ℕ} → ((rows : ℕ) → readCode (limits .spans) (stateAt p i rows sp) ≡ refused n q) → readShape (context limits p names pool) rv 32 (withKids (ItemKind.code ∷ []) values) (stateAt p i (own + 1) sp) ≡ refused n q
+  pub no-code :
+      {n q : ℕ} → ((rows : ℕ) → readCode (limits .spans) (stateAt p i rows sp) ≡ refused n q) →
+      readShape (context limits p names pool) rv 32 (withKids (ItemKind.code ∷ []) values) (stateAt p i (own + 1) sp) ≡ refused n q
   unfolding readShape readItems readItem _>>=_ andThen contextOf
   no-code e = rw (e (own + 1))
 
   module _ {a′ b′ : List ℕ} {o n mid : ℕ} (g : Accepted p a′ b′ sp (limits .spans) i o n mid) where
-    pub no-chunk : {m q : ℕ} → Reads p mid varint (stopped m q) → readShape (context limits p names pool) rv 32 (withKids (ItemKind.code ∷ []) values) (stateAt p i (own + 1) sp) ≡ refused m q
+    pub no-chunk :
+        {m q : ℕ} → Reads p mid varint (stopped m q) →
+        readShape (context limits p names pool) rv 32 (withKids (ItemKind.code ∷ []) values) (stateAt p i (own + 1) sp) ≡ refused m q
     unfolding readShape readItems readItem readKids _>>=_ andThen pure contextOf
     no-chunk e = rw (g .is (own + 1), e .is (own + 1) (sp + n))
 
-    pub did-chunk : {a b c c′ : List ℕ} {m next : ℕ} {r : Step} → Reads p mid varint (read m next) → b ≡ put a (rowWidth * own) (32 ∷ o ∷ n ∷ m ∷ 0 ∷ []) →
+    pub did-chunk :
+        {a b c c′ : List ℕ} {m next : ℕ} {r : Step} → Reads p mid varint (read m next) → b ≡ put a (rowWidth * own) (32 ∷ o ∷ n ∷ m ∷ 0 ∷ []) →
         Did manyTrees limits p b c b′ c′ (own + 1) (sp + n) r (readMany m rv (stateAt p next (own + 1) (sp + n))) →
-        Did oneTree limits p a c a′ c′ own sp r (readShape (context limits p names pool) rv 32 (withKids (ItemKind.code ∷ []) values) (stateAt p i (own + 1) sp))
+        Did oneTree limits p a c a′ c′ own sp r
+        (readShape (context limits p names pool) rv 32 (withKids (ItemKind.code ∷ []) values) (stateAt p i (own + 1) sp))
     unfolding readShape readItems readItem readKids _>>=_ andThen pure contextOf
-    did-chunk {m = m} {next = next} e w d = rw (g .is (own + 1), e .is (own + 1) (sp + n))
-        (did-node 32 (code (partOf p o n) (g .spans) ∷ []) (32 ∷ o ∷ n ∷ m ∷ 0 ∷ []) (spanWords (g .spans)) w refl (g .stored) (omega (arith, g .each, length-spanWords (g .spans))) (chunk-spans p o n (g .spans))
-            (λ ts z q. row-told 32 (withKids (ItemKind.code ∷ []) values) shape-chunk _ m (rootCount ts) (chunk-words p o n (g .spans) m (g .code-inside)) (chunk-told o n m)
-                (chunk-under m ∙ sym (many-count (context limits p names pool) rv rv m _ ts z q))) d)
+    did-chunk {m = m} {next = next} e w d =
+        rw (g .is (own + 1), e .is (own + 1) (sp + n))
+        (did-node 32 (code (partOf p o n) (g .spans) ∷ []) (32 ∷ o ∷ n ∷ m ∷ 0 ∷ []) (spanWords (g .spans)) w refl (g .stored)
+        (omega (arith, g .each, length-spanWords (g .spans))) (chunk-spans p o n (g .spans))
+        (λ ts z q.
+        row-told 32 (withKids (ItemKind.code ∷ []) values) shape-chunk _ m (rootCount ts) (chunk-words p o n (g .spans) m (g .code-inside)) (chunk-told o n m)
+        (chunk-under m ∙ sym (many-count (context limits p names pool) rv rv m _ ts z q))) d)

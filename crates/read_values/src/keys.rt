@@ -49,7 +49,13 @@ fn same_key(bytes: &[u8], rows: &[u64], i: usize, j: usize) -> bool
         return false;
     }
     if tag == 6 {
-        return same_string(bytes, rows[key + 1], rows[key + 2], rows[other + 1], rows[other + 2]);
+        return same_string(
+            bytes,
+            rows[key + 1],
+            rows[key + 2],
+            rows[other + 1],
+            rows[other + 2],
+        );
     }
     rows[key + 1] == rows[other + 1]
 }

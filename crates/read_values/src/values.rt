@@ -7,16 +7,28 @@ ghost use Rattle.payload.specs.Shapes.{shape};
 ghost use Rattle.read_items.specs.Context.{PoolFits};
 ghost use Rattle.read_values.specs.Did.{Fit, Did, oneTree, manyTrees, context, stateOf};
 ghost use Rattle.read_values.specs.Under.{chunkRow, fieldRow, readUnder};
+use crate::Limits;
+use crate::State;
+use crate::Step;
 use crate::keys;
 use crate::rows;
-use crate::{Limits, State, Step};
 use read_code::CodeAt;
+use read_items::Head;
+use read_items::Number;
 use read_items::heads;
 use read_items::items;
-use read_items::{Head, Number};
 
 // A value, with `left` levels left.
-pub fn read_value(left: usize, limits: Limits, bytes: &[u8], names: &[u8], pool: &[u64], rows: &mut [u64], spans: &mut [u64], state: State) -> Step
+pub fn read_value(
+    left: usize,
+    limits: Limits,
+    bytes: &[u8],
+    names: &[u8],
+    pool: &[u64],
+    rows: &mut [u64],
+    spans: &mut [u64],
+    state: State,
+) -> Step
     requires { ⌜ Fit limits (now bytes) (now rows) (now spans) state ⌝ }
     requires { ⌜ PoolFits (now bytes) (now pool) ⌝ }
     ensures { λ r. ⌜ Did oneTree limits (now (bytes .entry)) (now (rows .entry)) (now (rows .exit)) (now (spans .entry)) (now (spans .exit)) (state .rows) (state .spans) r (readValue (context limits (now (bytes .entry)) (now (names .entry)) (now (pool .entry))) left (stateOf (now (bytes .entry)) state)) ⌝ }
@@ -37,26 +49,66 @@ pub fn read_value(left: usize, limits: Limits, bytes: &[u8], names: &[u8], pool:
     }
     let deep = left - 1;
     if tag == 18 {
-        return read_closure(deep, state.rows, limits, bytes, names, pool, rows, spans, State { at: at + 1, rows: state.rows + 1, spans: state.spans });
+        return read_closure(
+            deep,
+            state.rows,
+            limits,
+            bytes,
+            names,
+            pool,
+            rows,
+            spans,
+            State {
+                at: at + 1,
+                rows: state.rows + 1,
+                spans: state.spans,
+            },
+        );
     }
     match heads::read_head(heads::class_of(tag), bytes, names, pool, at + 1) {
         Head::Row(a, b, c, d, count, next) => {
             rows::write_row(rows, state.rows, tag, a, b, c, d);
-            let after = State { at: next, rows: state.rows + 1, spans: state.spans };
+            let after = State {
+                at: next,
+                rows: state.rows + 1,
+                spans: state.spans,
+            };
             if count == 0 {
                 return Step::Done(after);
             }
             if tag == 7 {
                 return read_chunk(deep, limits, bytes, names, pool, rows, spans, after);
             }
-            read_under(deep, tag, count, limits, bytes, names, pool, rows, spans, after)
+            read_under(
+                deep,
+                tag,
+                count,
+                limits,
+                bytes,
+                names,
+                pool,
+                rows,
+                spans,
+                after,
+            )
         }
         Head::Refused(n, q) => Step::Refused(n, q),
     }
 }
 
 // What stands under a row that has been stored, of a value that is neither a function nor a closure.
-fn read_under(left: usize, tag: u64, count: u64, limits: Limits, bytes: &[u8], names: &[u8], pool: &[u64], rows: &mut [u64], spans: &mut [u64], state: State) -> Step
+fn read_under(
+    left: usize,
+    tag: u64,
+    count: u64,
+    limits: Limits,
+    bytes: &[u8],
+    names: &[u8],
+    pool: &[u64],
+    rows: &mut [u64],
+    spans: &mut [u64],
+    state: State,
+) -> Step
     requires { ⌜ Fit limits (now bytes) (now rows) (now spans) state ⌝ }
     requires { ⌜ PoolFits (now bytes) (now pool) ⌝ }
     requires { ⌜ (tag ≤ 26) × (tag ≡ 7 → ⊥) × (tag ≡ 18 → ⊥) ⌝ }
@@ -75,7 +127,17 @@ fn read_under(left: usize, tag: u64, count: u64, limits: Limits, bytes: &[u8], n
 }
 
 // `count` values.
-fn read_values(left: usize, count: u64, limits: Limits, bytes: &[u8], names: &[u8], pool: &[u64], rows: &mut [u64], spans: &mut [u64], state: State) -> Step
+fn read_values(
+    left: usize,
+    count: u64,
+    limits: Limits,
+    bytes: &[u8],
+    names: &[u8],
+    pool: &[u64],
+    rows: &mut [u64],
+    spans: &mut [u64],
+    state: State,
+) -> Step
     requires { ⌜ Fit limits (now bytes) (now rows) (now spans) state ⌝ }
     requires { ⌜ PoolFits (now bytes) (now pool) ⌝ }
     ensures { λ r. ⌜ Did manyTrees limits (now (bytes .entry)) (now (rows .entry)) (now (rows .exit)) (now (spans .entry)) (now (spans .exit)) (state .rows) (state .spans) r (readMany count (readValue (context limits (now (bytes .entry)) (now (names .entry)) (now (pool .entry))) left) (stateOf (now (bytes .entry)) state)) ⌝ }
@@ -97,7 +159,17 @@ fn read_values(left: usize, count: u64, limits: Limits, bytes: &[u8], names: &[u
 }
 
 // `count` fields of a record.
-fn read_fields(left: usize, count: u64, limits: Limits, bytes: &[u8], names: &[u8], pool: &[u64], rows: &mut [u64], spans: &mut [u64], state: State) -> Step
+fn read_fields(
+    left: usize,
+    count: u64,
+    limits: Limits,
+    bytes: &[u8],
+    names: &[u8],
+    pool: &[u64],
+    rows: &mut [u64],
+    spans: &mut [u64],
+    state: State,
+) -> Step
     requires { ⌜ Fit limits (now bytes) (now rows) (now spans) state ⌝ }
     requires { ⌜ PoolFits (now bytes) (now pool) ⌝ }
     ensures { λ r. ⌜ Did manyTrees limits (now (bytes .entry)) (now (rows .entry)) (now (rows .exit)) (now (spans .entry)) (now (spans .exit)) (state .rows) (state .spans) r (readMany count (fieldRow (context limits (now (bytes .entry)) (now (names .entry)) (now (pool .entry))) (readValue (context limits (now (bytes .entry)) (now (names .entry)) (now (pool .entry))) left)) (stateOf (now (bytes .entry)) state)) ⌝ }
@@ -119,7 +191,16 @@ fn read_fields(left: usize, count: u64, limits: Limits, bytes: &[u8], names: &[u
 }
 
 // A field row, and its value.
-fn read_field(left: usize, limits: Limits, bytes: &[u8], names: &[u8], pool: &[u64], rows: &mut [u64], spans: &mut [u64], state: State) -> Step
+fn read_field(
+    left: usize,
+    limits: Limits,
+    bytes: &[u8],
+    names: &[u8],
+    pool: &[u64],
+    rows: &mut [u64],
+    spans: &mut [u64],
+    state: State,
+) -> Step
     requires { ⌜ Fit limits (now bytes) (now rows) (now spans) state ⌝ }
     requires { ⌜ PoolFits (now bytes) (now pool) ⌝ }
     ensures { λ r. ⌜ Did oneTree limits (now (bytes .entry)) (now (rows .entry)) (now (rows .exit)) (now (spans .entry)) (now (spans .exit)) (state .rows) (state .spans) r (fieldRow (context limits (now (bytes .entry)) (now (names .entry)) (now (pool .entry))) (readValue (context limits (now (bytes .entry)) (now (names .entry)) (now (pool .entry))) left) (stateOf (now (bytes .entry)) state)) ⌝ }
@@ -130,14 +211,38 @@ fn read_field(left: usize, limits: Limits, bytes: &[u8], names: &[u8], pool: &[u
     match heads::read_field_head(bytes, pool, state.at) {
         Head::Row(a, b, c, d, count, next) => {
             rows::write_row(rows, state.rows, 33, a, b, c, d);
-            read_values(left, count, limits, bytes, names, pool, rows, spans, State { at: next, rows: state.rows + 1, spans: state.spans })
+            read_values(
+                left,
+                count,
+                limits,
+                bytes,
+                names,
+                pool,
+                rows,
+                spans,
+                State {
+                    at: next,
+                    rows: state.rows + 1,
+                    spans: state.spans,
+                },
+            )
         }
         Head::Refused(n, q) => Step::Refused(n, q),
     }
 }
 
 // A closure whose row is number `own`: its template, its own row, and the captured values. The row is stored once its head is read, before the template's rows.
-fn read_closure(left: usize, own: usize, limits: Limits, bytes: &[u8], names: &[u8], pool: &[u64], rows: &mut [u64], spans: &mut [u64], state: State) -> Step
+fn read_closure(
+    left: usize,
+    own: usize,
+    limits: Limits,
+    bytes: &[u8],
+    names: &[u8],
+    pool: &[u64],
+    rows: &mut [u64],
+    spans: &mut [u64],
+    state: State,
+) -> Step
     requires { ⌜ Fit limits (now bytes) (now rows) (now spans) state ⌝ }
     requires { ⌜ PoolFits (now bytes) (now pool) ⌝ }
     requires { ⌜ own + 1 ≡ state .rows ⌝ }
@@ -151,7 +256,21 @@ fn read_closure(left: usize, own: usize, limits: Limits, bytes: &[u8], names: &[
             match heads::read_closure_head(bytes, mid.at) {
                 Head::Row(a, b, c, d, count, next) => {
                     rows::write_row(rows, own, 18, a, b, c, d);
-                    read_values(left, count, limits, bytes, names, pool, rows, spans, State { at: next, rows: mid.rows, spans: mid.spans })
+                    read_values(
+                        left,
+                        count,
+                        limits,
+                        bytes,
+                        names,
+                        pool,
+                        rows,
+                        spans,
+                        State {
+                            at: next,
+                            rows: mid.rows,
+                            spans: mid.spans,
+                        },
+                    )
                 }
                 Head::Refused(n, q) => Step::Refused(n, q),
             }
@@ -161,7 +280,16 @@ fn read_closure(left: usize, own: usize, limits: Limits, bytes: &[u8], names: &[
 }
 
 // A chunk row: its code and spans, and its constants.
-pub fn read_chunk(left: usize, limits: Limits, bytes: &[u8], names: &[u8], pool: &[u64], rows: &mut [u64], spans: &mut [u64], state: State) -> Step
+pub fn read_chunk(
+    left: usize,
+    limits: Limits,
+    bytes: &[u8],
+    names: &[u8],
+    pool: &[u64],
+    rows: &mut [u64],
+    spans: &mut [u64],
+    state: State,
+) -> Step
     requires { ⌜ Fit limits (now bytes) (now rows) (now spans) state ⌝ }
     requires { ⌜ PoolFits (now bytes) (now pool) ⌝ }
     ensures { λ r. ⌜ Did oneTree limits (now (bytes .entry)) (now (rows .entry)) (now (rows .exit)) (now (spans .entry)) (now (spans .exit)) (state .rows) (state .spans) r (chunkRow (context limits (now (bytes .entry)) (now (names .entry)) (now (pool .entry))) (readValue (context limits (now (bytes .entry)) (now (names .entry)) (now (pool .entry))) left) (stateOf (now (bytes .entry)) state)) ⌝ }
@@ -173,7 +301,21 @@ pub fn read_chunk(left: usize, limits: Limits, bytes: &[u8], names: &[u8], pool:
         CodeAt::Code(o, n, mid) => match items::read_uvarint(bytes, mid) {
             Number::Read(count, next) => {
                 rows::write_row(rows, state.rows, 32, o as u64, n as u64, count, 0);
-                read_values(left, count, limits, bytes, names, pool, rows, spans, State { at: next, rows: state.rows + 1, spans: state.spans + n })
+                read_values(
+                    left,
+                    count,
+                    limits,
+                    bytes,
+                    names,
+                    pool,
+                    rows,
+                    spans,
+                    State {
+                        at: next,
+                        rows: state.rows + 1,
+                        spans: state.spans + n,
+                    },
+                )
             }
             Number::Refused(n, q) => Step::Refused(n, q),
         },
@@ -182,7 +324,17 @@ pub fn read_chunk(left: usize, limits: Limits, bytes: &[u8], names: &[u8], pool:
 }
 
 // `count` elements of a set, each tested once it is read.
-fn read_keys(left: usize, count: u64, limits: Limits, bytes: &[u8], names: &[u8], pool: &[u64], rows: &mut [u64], spans: &mut [u64], state: State) -> Step
+fn read_keys(
+    left: usize,
+    count: u64,
+    limits: Limits,
+    bytes: &[u8],
+    names: &[u8],
+    pool: &[u64],
+    rows: &mut [u64],
+    spans: &mut [u64],
+    state: State,
+) -> Step
     requires { ⌜ Fit limits (now bytes) (now rows) (now spans) state ⌝ }
     requires { ⌜ PoolFits (now bytes) (now pool) ⌝ }
     ensures { λ r. ⌜ Did manyTrees limits (now (bytes .entry)) (now (rows .entry)) (now (rows .exit)) (now (spans .entry)) (now (spans .exit)) (state .rows) (state .spans) r (readKeys count [] (readValue (context limits (now (bytes .entry)) (now (names .entry)) (now (pool .entry))) left) (stateOf (now (bytes .entry)) state)) ⌝ }
@@ -209,7 +361,17 @@ fn read_keys(left: usize, count: u64, limits: Limits, bytes: &[u8], names: &[u8]
 }
 
 // `count` entries of a map, each key tested after its value.
-fn read_pairs(left: usize, count: u64, limits: Limits, bytes: &[u8], names: &[u8], pool: &[u64], rows: &mut [u64], spans: &mut [u64], state: State) -> Step
+fn read_pairs(
+    left: usize,
+    count: u64,
+    limits: Limits,
+    bytes: &[u8],
+    names: &[u8],
+    pool: &[u64],
+    rows: &mut [u64],
+    spans: &mut [u64],
+    state: State,
+) -> Step
     requires { ⌜ Fit limits (now bytes) (now rows) (now spans) state ⌝ }
     requires { ⌜ PoolFits (now bytes) (now pool) ⌝ }
     ensures { λ r. ⌜ Did manyTrees limits (now (bytes .entry)) (now (rows .entry)) (now (rows .exit)) (now (spans .entry)) (now (spans .exit)) (state .rows) (state .spans) r (readPairs count [] (readValue (context limits (now (bytes .entry)) (now (names .entry)) (now (pool .entry))) left) (stateOf (now (bytes .entry)) state)) ⌝ }
@@ -219,7 +381,16 @@ fn read_pairs(left: usize, count: u64, limits: Limits, bytes: &[u8], names: &[u8
     let mut k: u64 = 0;
     while k < count {
         match read_value(left, limits, bytes, names, pool, rows, spans, now) {
-            Step::Done(mid) => match read_value(left, limits, bytes, names, pool, rows, spans, mid) {
+            Step::Done(mid) => match read_value(
+                left,
+                limits,
+                bytes,
+                names,
+                pool,
+                rows,
+                spans,
+                mid,
+            ) {
                 Step::Done(next) => {
                     let refusal = keys::test_key(bytes, rows, first, now.rows, 1);
                     if refusal != 0 {

@@ -33,6 +33,8 @@ pub at : (f : ℕ → ℕ → Bool) (xs : List ℕ) → T (every f 0 xs) → (k 
 at f xs t k h = subst (λ (m : ℕ). T (f m (getD xs k 0))) (zero-add k) (from f xs 0 t k h)
 
 -- the digit of a tag, where f has at each of the 35 entries what the table has
-pub agrees : (f : ℕ → ℕ) (r low middle high t : ℕ) → r ≡ getD (entries low middle high) (min t 34) 0 → T (every (λ k x. eqb x (f k)) 0 (entries low middle high)) → f (min t 34) ≡ f t → r ≡ f t
+pub agrees :
+    (f : ℕ → ℕ) (r low middle high t : ℕ) → r ≡ getD (entries low middle high) (min t 34) 0 → T (every (λ k x. eqb x (f k)) 0 (entries low middle high)) →
+    f (min t 34) ≡ f t → r ≡ f t
 unfolding entries digits
 agrees f r low middle high t e right same = e ∙ eqb→eq _ _ (at (λ k x. eqb x (f k)) (entries low middle high) right (min t 34) (omega arith)) ∙ same

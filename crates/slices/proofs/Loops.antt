@@ -53,9 +53,17 @@ copy-more xs at s i h =
     rw (add-one i, take-suc s i 0 h) (ap (λ (k : ℕ). set (put xs at (take i s)) (at + k) (getD s i 0)) (sym n) ∙ put-snoc xs at (take i s) (getD s i 0))
 
 -- a block's turn
-pub block-more : (a b : List ℕ) (i k : ℕ) → i ≤ k → k < length a → k < length b
-    → (same (take (k - i) (drop i a)) (take (k - i) (drop i b)) && eqb (getD a k 0) (getD b k 0)) ≡ same (take (k + 1 - i) (drop i a)) (take (k + 1 - i) (drop i b))
+pub block-more :
+    (a b : List ℕ) (i k : ℕ) → i ≤ k → k < length a → k < length b →
+    (same (take (k - i) (drop i a)) (take (k - i) (drop i b)) && eqb (getD a k 0) (getD b k 0))
+    ≡ same (take (k + 1 - i) (drop i a)) (take (k + 1 - i) (drop i b))
 block-more a b i k h p q =
     let n : k + 1 - i ≡ k - i + 1 = omega arith in
     let e : i + (k - i) ≡ k = omega arith in
-    rw (n, same-snoc (drop i a) (drop i b) (k - i) (simp length-drop (omega arith)) (simp length-drop (omega arith)), getD-drop i a (k - i) 0, getD-drop i b (k - i) 0, e)
+    rw (
+      n,
+      same-snoc (drop i a) (drop i b) (k - i) (simp length-drop (omega arith)) (simp length-drop (omega arith)),
+      getD-drop i a (k - i) 0,
+      getD-drop i b (k - i) 0,
+      e,
+    )

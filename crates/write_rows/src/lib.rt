@@ -21,6 +21,7 @@ ghost use Rattle.write_rows.specs.Payload.{lineBytes, payloadBytes, walk
 ghost use Rattle.write_rows.specs.Reached.{Writable, Reached};
 
 const ROW_WIDTH: usize = 5;
+
 const WALK_DEPTH: usize = 65;
 
 // The next row, the next span, the place in the payload, and the pool index that the next string is expected to have.
@@ -88,7 +89,14 @@ fn lend_runs(comparing: bool, payload: &[u8], out: &mut [u8], at: usize, spans: 
     emit::advance(at, n)
 }
 
-fn write_chunk(comparing: bool, payload: &[u8], out: &mut [u8], at: usize, code: &[u8], spans: &[u64]) -> usize
+fn write_chunk(
+    comparing: bool,
+    payload: &[u8],
+    out: &mut [u8],
+    at: usize,
+    code: &[u8],
+    spans: &[u64],
+) -> usize
     requires { ⌜ Ready comparing (now out) at ⌝ }
     requires { ⌜ Positions (now spans) ⌝ }
     ensures { λ r. ⌜ Emitted comparing (now (payload .entry)) (now (out .entry)) (now (out .exit)) at r (writeCode (now (code .entry)) (spansOf (now (spans .entry)))) ⌝ }
@@ -108,18 +116,37 @@ fn expect_next(expected: usize, found: usize) -> usize {
 }
 
 // A string's index.
-fn write_index(comparing: bool, payload: &[u8], out: &mut [u8], st: Step, store: &[u8], pool: &[u64], o: u64, n: u64) -> Step
+fn write_index(
+    comparing: bool,
+    payload: &[u8],
+    out: &mut [u8],
+    st: Step,
+    store: &[u8],
+    pool: &[u64],
+    o: u64,
+    n: u64,
+) -> Step
     requires { ⌜ Ready comparing (now out) (st .at) ⌝ }
     requires { ⌜ distinct (poolStrings (now store) (now pool)) ≡ true ⌝ }
     ensures { λ r. ⌜ Emitted comparing (now (payload .entry)) (now (out .entry)) (now (out .exit)) (st .at) (r .at) (uleb128 (indexOf (bytesAt (now (store .entry)) o n) (poolStrings (now (store .entry)) (now (pool .entry))))) ⌝ }
 {
     let k = pool_index::lookup(store, pool, st.expected, o, n);
     let at = emit::emit_varint(comparing, payload, out, st.at, k as u64);
-    Step { at, expected: expect_next(st.expected, k) }
+    Step {
+        at,
+        expected: expect_next(st.expected, k),
+    }
 }
 
 // An item that is a number, by its form.
-fn write_number(form: u64, comparing: bool, payload: &[u8], out: &mut [u8], at: usize, a: u64) -> usize
+fn write_number(
+    form: u64,
+    comparing: bool,
+    payload: &[u8],
+    out: &mut [u8],
+    at: usize,
+    a: u64,
+) -> usize
     requires { ⌜ Ready comparing (now out) at ⌝ }
     requires { ⌜ form < 6 ⌝ }
     ensures { λ r. ⌜ Emitted comparing (now (payload .entry)) (now (out .entry)) (now (out .exit)) at r (itemBytes [] [] [] form a 0) ⌝ }
@@ -143,7 +170,17 @@ fn write_number(form: u64, comparing: bool, payload: &[u8], out: &mut [u8], at: 
 }
 
 // An item that is no code, by its form.
-fn write_plain(form: u64, comparing: bool, payload: &[u8], out: &mut [u8], st: Step, store: &[u8], pool: &[u64], a: u64, b: u64) -> Step
+fn write_plain(
+    form: u64,
+    comparing: bool,
+    payload: &[u8],
+    out: &mut [u8],
+    st: Step,
+    store: &[u8],
+    pool: &[u64],
+    a: u64,
+    b: u64,
+) -> Step
     requires { ⌜ Ready comparing (now out) (st .at) ⌝ }
     requires { ⌜ distinct (poolStrings (now store) (now pool)) ≡ true ⌝ }
     requires { ⌜ form < 7 ⌝ }
@@ -153,56 +190,137 @@ fn write_plain(form: u64, comparing: bool, payload: &[u8], out: &mut [u8], st: S
         return write_index(comparing, payload, out, st, store, pool, a, b);
     }
     let next = write_number(form, comparing, payload, out, st.at, a);
-    Step { at: next, expected: st.expected }
+    Step {
+        at: next,
+        expected: st.expected,
+    }
 }
 
 // An item by its form.
-fn write_item(form: u64, comparing: bool, payload: &[u8], out: &mut [u8], st: Step, store: &[u8], pool: &[u64], spans: &[u64], a: u64, b: u64) -> Step
+fn write_item(
+    form: u64,
+    comparing: bool,
+    payload: &[u8],
+    out: &mut [u8],
+    st: Step,
+    store: &[u8],
+    pool: &[u64],
+    spans: &[u64],
+    a: u64,
+    b: u64,
+) -> Step
     requires { ⌜ Ready comparing (now out) (st .at) ⌝ }
     requires { ⌜ Writable (now store) (now pool) (now spans) ⌝ }
     ensures { λ r. ⌜ Emitted comparing (now (payload .entry)) (now (out .entry)) (now (out .exit)) (st .at) (r .at) (itemBytes (now (store .entry)) (poolStrings (now (store .entry)) (now (pool .entry))) (spansOf (now (spans .entry))) form a b) ⌝ }
 {
     if form < 6 {
         let next = write_number(form, comparing, payload, out, st.at, a);
-        return Step { at: next, expected: st.expected };
+        return Step {
+            at: next,
+            expected: st.expected,
+        };
     }
     if form == 6 {
         return write_index(comparing, payload, out, st, store, pool, a, b);
     }
     if form == 7 {
-        let next = write_chunk(comparing, payload, out, st.at, pool_index::bytes_at(store, a, b), spans);
-        return Step { at: next, expected: st.expected };
+        let next = write_chunk(
+            comparing,
+            payload,
+            out,
+            st.at,
+            pool_index::bytes_at(store, a, b),
+            spans,
+        );
+        return Step {
+            at: next,
+            expected: st.expected,
+        };
     }
     st
 }
 
 // What a row gives besides its tag: its items, and its count where it has one.
-fn write_items(comparing: bool, payload: &[u8], out: &mut [u8], st: Step, store: &[u8], pool: &[u64], rows: &[u64], spans: &[u64], i: usize) -> Step
+fn write_items(
+    comparing: bool,
+    payload: &[u8],
+    out: &mut [u8],
+    st: Step,
+    store: &[u8],
+    pool: &[u64],
+    rows: &[u64],
+    spans: &[u64],
+    i: usize,
+) -> Step
     requires { ⌜ Ready comparing (now out) (st .at) ⌝ }
     requires { ⌜ Writable (now store) (now pool) (now spans) ⌝ }
     requires { ⌜ i < rowCount (now rows) ⌝ }
     ensures { λ r. ⌜ Emitted comparing (now (payload .entry)) (now (out .entry)) (now (out .exit)) (st .at) (r .at) (itemsBytes (held (now (store .entry)) (now (pool .entry)) (now (rows .entry)) []) i (spansOf (now (spans .entry)))) ⌝ }
 {
     let tag = word_at(rows, i, 0);
-    let a = write_item(row_layout::first_form(tag), comparing, payload, out, st, store, pool, spans, word_at(rows, i, 1), word_at(rows, i, 2));
+    let a = write_item(
+        row_layout::first_form(tag),
+        comparing,
+        payload,
+        out,
+        st,
+        store,
+        pool,
+        spans,
+        word_at(rows, i, 1),
+        word_at(rows, i, 2),
+    );
     let w = row_layout::second_word(tag);
-    let b = write_item(row_layout::second_form(tag), comparing, payload, out, a, store, pool, spans, word_at(rows, i, w), word_at(rows, i, w + 1));
+    let b = write_item(
+        row_layout::second_form(tag),
+        comparing,
+        payload,
+        out,
+        a,
+        store,
+        pool,
+        spans,
+        word_at(rows, i, w),
+        word_at(rows, i, w + 1),
+    );
     if 2 <= row_layout::under_form(tag) {
-        let next = emit::emit_varint(comparing, payload, out, b.at, word_at(rows, i, row_layout::count_word(tag)));
-        return Step { at: next, expected: b.expected };
+        let next = emit::emit_varint(
+            comparing,
+            payload,
+            out,
+            b.at,
+            word_at(rows, i, row_layout::count_word(tag)),
+        );
+        return Step {
+            at: next,
+            expected: b.expected,
+        };
     }
     b
 }
 
 // What a row gives before the rows under it.
-fn write_head(comparing: bool, payload: &[u8], out: &mut [u8], st: Step, store: &[u8], pool: &[u64], rows: &[u64], spans: &[u64], i: usize) -> Step
+fn write_head(
+    comparing: bool,
+    payload: &[u8],
+    out: &mut [u8],
+    st: Step,
+    store: &[u8],
+    pool: &[u64],
+    rows: &[u64],
+    spans: &[u64],
+    i: usize,
+) -> Step
     requires { ⌜ Ready comparing (now out) (st .at) ⌝ }
     requires { ⌜ Writable (now store) (now pool) (now spans) ⌝ }
     requires { ⌜ i < rowCount (now rows) ⌝ }
     ensures { λ r. ⌜ Emitted comparing (now (payload .entry)) (now (out .entry)) (now (out .exit)) (st .at) (r .at) (headBytes (held (now (store .entry)) (now (pool .entry)) (now (rows .entry)) []) i (spansOf (now (spans .entry)))) ⌝ }
 {
     let tag = word_at(rows, i, 0);
-    let next = Step { at: write_tag(comparing, payload, out, st.at, tag), expected: st.expected };
+    let next = Step {
+        at: write_tag(comparing, payload, out, st.at, tag),
+        expected: st.expected,
+    };
     if row_layout::under_form(tag) == 4 {
         return next;
     }
@@ -210,7 +328,15 @@ fn write_head(comparing: bool, payload: &[u8], out: &mut [u8], st: Step, store: 
 }
 
 // A row with nothing under it: its tag, and its items, none of which is code.
-fn write_leaf(comparing: bool, payload: &[u8], out: &mut [u8], store: &[u8], pool: &[u64], rows: &[u64], st: Place) -> Place
+fn write_leaf(
+    comparing: bool,
+    payload: &[u8],
+    out: &mut [u8],
+    store: &[u8],
+    pool: &[u64],
+    rows: &[u64],
+    st: Place,
+) -> Place
     requires { ⌜ Ready comparing (now out) (st .at) ⌝ }
     requires { ⌜ distinct (poolStrings (now store) (now pool)) ≡ true ⌝ }
     requires { ⌜ (st .row < rowCount (now rows)) × (underForm (rowWord (now rows) (st .row) 0) ≡ 0) ⌝ }
@@ -219,15 +345,48 @@ fn write_leaf(comparing: bool, payload: &[u8], out: &mut [u8], store: &[u8], poo
 {
     let i = st.row;
     let tag = word_at(rows, i, 0);
-    let next = Step { at: write_tag(comparing, payload, out, st.at, tag), expected: st.expected };
-    let a = write_plain(row_layout::first_form(tag), comparing, payload, out, next, store, pool, word_at(rows, i, 1), word_at(rows, i, 2));
+    let next = Step {
+        at: write_tag(comparing, payload, out, st.at, tag),
+        expected: st.expected,
+    };
+    let a = write_plain(
+        row_layout::first_form(tag),
+        comparing,
+        payload,
+        out,
+        next,
+        store,
+        pool,
+        word_at(rows, i, 1),
+        word_at(rows, i, 2),
+    );
     let form = row_layout::second_form(tag);
     if form == 0 {
-        return Place { row: i + 1, span: st.span, at: a.at, expected: a.expected };
+        return Place {
+            row: i + 1,
+            span: st.span,
+            at: a.at,
+            expected: a.expected,
+        };
     }
     let w = row_layout::second_word(tag);
-    let b = write_plain(form, comparing, payload, out, a, store, pool, word_at(rows, i, w), word_at(rows, i, w + 1));
-    Place { row: i + 1, span: st.span, at: b.at, expected: b.expected }
+    let b = write_plain(
+        form,
+        comparing,
+        payload,
+        out,
+        a,
+        store,
+        pool,
+        word_at(rows, i, w),
+        word_at(rows, i, w + 1),
+    );
+    Place {
+        row: i + 1,
+        span: st.span,
+        at: b.at,
+        expected: b.expected,
+    }
 }
 
 // The span after those of a row.
@@ -257,7 +416,10 @@ fn rows_under(rows: &[u64], i: usize) -> u64
     if under == 1 {
         return 1;
     }
-    let n = pool_index::cut(word_at(rows, i, row_layout::count_word(tag)), rows.len() / ROW_WIDTH) as u64;
+    let n = pool_index::cut(
+        word_at(rows, i, row_layout::count_word(tag)),
+        rows.len() / ROW_WIDTH,
+    ) as u64;
     if under == 3 {
         return 2 * n;
     }
@@ -266,7 +428,17 @@ fn rows_under(rows: &[u64], i: usize) -> u64
 
 // ---- the walk: a row, and so many rows, each with those under them
 
-fn write_row(depth: usize, comparing: bool, payload: &[u8], out: &mut [u8], store: &[u8], pool: &[u64], rows: &[u64], spans: &[u64], st: Place) -> Place
+fn write_row(
+    depth: usize,
+    comparing: bool,
+    payload: &[u8],
+    out: &mut [u8],
+    store: &[u8],
+    pool: &[u64],
+    rows: &[u64],
+    spans: &[u64],
+    st: Place,
+) -> Place
     requires { ⌜ Ready comparing (now out) (st .at) ⌝ }
     requires { ⌜ Writable (now store) (now pool) (now spans) ⌝ }
     requires { ⌜ (st .row < rowCount (now rows)) × (st .span ≤ length (now spans) / 2) ⌝ }
@@ -277,22 +449,102 @@ fn write_row(depth: usize, comparing: bool, payload: &[u8], out: &mut [u8], stor
     let after = span_after(store, rows, spans, i, j);
     let a = 2 * j;
     let e = 2 * after;
-    let head = write_head(comparing, payload, out, Step { at: st.at, expected: st.expected }, store, pool, rows, &spans[a..e], i);
+    let head = write_head(
+        comparing,
+        payload,
+        out,
+        Step {
+            at: st.at,
+            expected: st.expected,
+        },
+        store,
+        pool,
+        rows,
+        &spans[a..e],
+        i,
+    );
     let n = rows_under(rows, i);
-    let next = Place { row: i + 1, span: after, at: head.at, expected: head.expected };
+    let next = Place {
+        row: i + 1,
+        span: after,
+        at: head.at,
+        expected: head.expected,
+    };
     if row_layout::under_form(word_at(rows, i, 0)) == 4 {
-        let mid = write_rows(depth, comparing, payload, out, store, pool, rows, spans, 1, next);
+        let mid = write_rows(
+            depth,
+            comparing,
+            payload,
+            out,
+            store,
+            pool,
+            rows,
+            spans,
+            1,
+            next,
+        );
         let z: usize = 0;
-        let items = write_items(comparing, payload, out, Step { at: mid.at, expected: mid.expected }, store, pool, rows, &spans[z..z], i);
-        return write_rows(depth, comparing, payload, out, store, pool, rows, spans, n, Place { row: mid.row, span: mid.span, at: items.at, expected: items.expected });
+        let items = write_items(
+            comparing,
+            payload,
+            out,
+            Step {
+                at: mid.at,
+                expected: mid.expected,
+            },
+            store,
+            pool,
+            rows,
+            &spans[z..z],
+            i,
+        );
+        return write_rows(
+            depth,
+            comparing,
+            payload,
+            out,
+            store,
+            pool,
+            rows,
+            spans,
+            n,
+            Place {
+                row: mid.row,
+                span: mid.span,
+                at: items.at,
+                expected: items.expected,
+            },
+        );
     }
     if n == 0 {
         return next;
     }
-    write_rows(depth, comparing, payload, out, store, pool, rows, spans, n, next)
+    write_rows(
+        depth,
+        comparing,
+        payload,
+        out,
+        store,
+        pool,
+        rows,
+        spans,
+        n,
+        next,
+    )
 }
 
-fn write_rows(depth: usize, comparing: bool, payload: &[u8], out: &mut [u8], store: &[u8], pool: &[u64], rows: &[u64], spans: &[u64], count: u64, st: Place) -> Place
+fn write_rows(
+    depth: usize,
+    comparing: bool,
+    payload: &[u8],
+    out: &mut [u8],
+    store: &[u8],
+    pool: &[u64],
+    rows: &[u64],
+    spans: &[u64],
+    count: u64,
+    st: Place,
+) -> Place
     requires { ⌜ Ready comparing (now out) (st .at) ⌝ }
     requires { ⌜ Writable (now store) (now pool) (now spans) ⌝ }
     requires { ⌜ st .span ≤ length (now spans) / 2 ⌝ }
@@ -311,7 +563,17 @@ fn write_rows(depth: usize, comparing: bool, payload: &[u8], out: &mut [u8], sto
         if row_layout::under_form(word_at(rows, here.row, 0)) == 0 {
             here = write_leaf(comparing, payload, out, store, pool, rows, here);
         } else {
-            here = write_row(under, comparing, payload, out, store, pool, rows, spans, here);
+            here = write_row(
+                under,
+                comparing,
+                payload,
+                out,
+                store,
+                pool,
+                rows,
+                spans,
+                here,
+            );
         }
         k += 1;
     }
@@ -320,7 +582,14 @@ fn write_rows(depth: usize, comparing: bool, payload: &[u8], out: &mut [u8], sto
 
 // ---- pool, values, line index: each into the part of the output that begins where the last part ended
 
-fn lend_pool(comparing: bool, payload: &[u8], out: &mut [u8], at: usize, store: &[u8], pool: &[u64]) -> usize
+fn lend_pool(
+    comparing: bool,
+    payload: &[u8],
+    out: &mut [u8],
+    at: usize,
+    store: &[u8],
+    pool: &[u64],
+) -> usize
     requires { ⌜ Ready comparing (now out) at ⌝ }
     ensures { λ r. ⌜ Emitted comparing (now (payload .entry)) (now (out .entry)) (now (out .exit)) at r (writePool (poolStrings (now (store .entry)) (now (pool .entry)))) ⌝ }
 {
@@ -330,14 +599,39 @@ fn lend_pool(comparing: bool, payload: &[u8], out: &mut [u8], at: usize, store: 
     emit::advance(at, n)
 }
 
-fn lend_values(comparing: bool, payload: &[u8], out: &mut [u8], at: usize, store: &[u8], pool: &[u64], rows: &[u64], spans: &[u64]) -> usize
+fn lend_values(
+    comparing: bool,
+    payload: &[u8],
+    out: &mut [u8],
+    at: usize,
+    store: &[u8],
+    pool: &[u64],
+    rows: &[u64],
+    spans: &[u64],
+) -> usize
     requires { ⌜ Ready comparing (now out) at ⌝ }
     requires { ⌜ Writable (now store) (now pool) (now spans) ⌝ }
     ensures { λ r. ⌜ Emitted comparing (now (payload .entry)) (now (out .entry)) (now (out .exit)) at r (walk (held (now (store .entry)) (now (pool .entry)) (now (rows .entry)) (now (spans .entry))) walkDepth 1 0 0 .bytes) ⌝ }
 {
     let o = emit::least(at, out.len());
     let p = emit::least(at, payload.len());
-    let end = write_rows(WALK_DEPTH, comparing, &payload[p..], &mut out[o..], store, pool, rows, spans, 1, Place { row: 0, span: 0, at: 0, expected: 0 });
+    let end = write_rows(
+        WALK_DEPTH,
+        comparing,
+        &payload[p..],
+        &mut out[o..],
+        store,
+        pool,
+        rows,
+        spans,
+        1,
+        Place {
+            row: 0,
+            span: 0,
+            at: 0,
+            expected: 0,
+        },
+    );
     emit::advance(at, end.at)
 }
 
@@ -363,7 +657,18 @@ fn write_starts(comparing: bool, payload: &[u8], out: &mut [u8], at: usize, star
     i
 }
 
-fn write_line_index(comparing: bool, payload: &[u8], out: &mut [u8], at: usize, store: &[u8], pool: &[u64], flag: u64, o: u64, n: u64, starts: &[u32]) -> usize
+fn write_line_index(
+    comparing: bool,
+    payload: &[u8],
+    out: &mut [u8],
+    at: usize,
+    store: &[u8],
+    pool: &[u64],
+    flag: u64,
+    o: u64,
+    n: u64,
+    starts: &[u32],
+) -> usize
     requires { ⌜ Ready comparing (now out) at ⌝ }
     requires { ⌜ distinct (poolStrings (now store) (now pool)) ≡ true ⌝ }
     ensures { λ r. ⌜ Emitted comparing (now (payload .entry)) (now (out .entry)) (now (out .exit)) at r (lineBytes (poolStrings (now (store .entry)) (now (pool .entry))) flag (bytesAt (now (store .entry)) o n) (now (starts .entry))) ⌝ }
@@ -380,7 +685,19 @@ fn write_line_index(comparing: bool, payload: &[u8], out: &mut [u8], at: usize, 
 
 // ---- the whole payload
 
-fn write_all(comparing: bool, payload: &[u8], out: &mut [u8], store: &[u8], pool: &[u64], rows: &[u64], spans: &[u64], flag: u64, o: u64, n: u64, starts: &[u32]) -> usize
+fn write_all(
+    comparing: bool,
+    payload: &[u8],
+    out: &mut [u8],
+    store: &[u8],
+    pool: &[u64],
+    rows: &[u64],
+    spans: &[u64],
+    flag: u64,
+    o: u64,
+    n: u64,
+    starts: &[u32],
+) -> usize
     requires { ⌜ Ready comparing (now out) 0 ⌝ }
     requires { ⌜ Writable (now store) (now pool) (now spans) ⌝ }
     ensures { λ r. ⌜ Emitted comparing (now (payload .entry)) (now (out .entry)) (now (out .exit)) 0 r (payloadBytes (held (now (store .entry)) (now (pool .entry)) (now (rows .entry)) (now (spans .entry))) flag (bytesAt (now (store .entry)) o n) (now (starts .entry))) ⌝ }
@@ -391,32 +708,98 @@ fn write_all(comparing: bool, payload: &[u8], out: &mut [u8], store: &[u8], pool
 }
 
 // How long the payload is: 16777217 where it is above the size limit.
-pub fn measure(store: &[u8], pool: &[u64], rows: &[u64], spans: &[u64], flag: u64, o: u64, n: u64, starts: &[u32]) -> usize
+pub fn measure(
+    store: &[u8],
+    pool: &[u64],
+    rows: &[u64],
+    spans: &[u64],
+    flag: u64,
+    o: u64,
+    n: u64,
+    starts: &[u32],
+) -> usize
     requires { ⌜ Writable (now store) (now pool) (now spans) ⌝ }
     ensures { λ r. ⌜ r ≡ further 0 (length (payloadBytes (held (now (store .entry)) (now (pool .entry)) (now (rows .entry)) (now (spans .entry))) flag (bytesAt (now (store .entry)) o n) (now (starts .entry)))) ⌝ }
 {
     let mut none = [0u8; 1];
     let z: usize = 0;
-    write_all(false, &store[z..z], &mut none[z..z], store, pool, rows, spans, flag, o, n, starts)
+    write_all(
+        false,
+        &store[z..z],
+        &mut none[z..z],
+        store,
+        pool,
+        rows,
+        spans,
+        flag,
+        o,
+        n,
+        starts,
+    )
 }
 
 // Whether the payload of the tables is this one.
-pub fn agrees(payload: &[u8], store: &[u8], pool: &[u64], rows: &[u64], spans: &[u64], flag: u64, o: u64, n: u64, starts: &[u32]) -> bool
+pub fn agrees(
+    payload: &[u8],
+    store: &[u8],
+    pool: &[u64],
+    rows: &[u64],
+    spans: &[u64],
+    flag: u64,
+    o: u64,
+    n: u64,
+    starts: &[u32],
+) -> bool
     requires { ⌜ length (now payload) ≤ 16777216 ⌝ }
     requires { ⌜ Writable (now store) (now pool) (now spans) ⌝ }
     ensures { λ r. ⌜ r ≡ same (payloadBytes (held (now (store .entry)) (now (pool .entry)) (now (rows .entry)) (now (spans .entry))) flag (bytesAt (now (store .entry)) o n) (now (starts .entry))) (now (payload .entry)) ⌝ }
 {
     let mut none = [0u8; 1];
     let z: usize = 0;
-    write_all(true, payload, &mut none[z..z], store, pool, rows, spans, flag, o, n, starts) == payload.len()
+    write_all(
+        true,
+        payload,
+        &mut none[z..z],
+        store,
+        pool,
+        rows,
+        spans,
+        flag,
+        o,
+        n,
+        starts,
+    )
+        == payload.len()
 }
 
 // The payload into an output that has room for it; what follows stays.
-pub fn write_out(out: &mut [u8], store: &[u8], pool: &[u64], rows: &[u64], spans: &[u64], flag: u64, o: u64, n: u64, starts: &[u32]) -> usize
+pub fn write_out(
+    out: &mut [u8],
+    store: &[u8],
+    pool: &[u64],
+    rows: &[u64],
+    spans: &[u64],
+    flag: u64,
+    o: u64,
+    n: u64,
+    starts: &[u32],
+) -> usize
     requires { ⌜ (length (payloadBytes (held (now store) (now pool) (now rows) (now spans)) flag (bytesAt (now store) o n) (now starts)) ≤ length (now out)) × (length (now out) ≤ 16777216) ⌝ }
     requires { ⌜ Writable (now store) (now pool) (now spans) ⌝ }
     ensures { λ r. ⌜ WrittenOut (payloadBytes (held (now (store .entry)) (now (pool .entry)) (now (rows .entry)) (now (spans .entry))) flag (bytesAt (now (store .entry)) o n) (now (starts .entry))) (now (out .entry)) (now (out .exit)) r ⌝ }
 {
     let z: usize = 0;
-    write_all(false, &store[z..z], out, store, pool, rows, spans, flag, o, n, starts)
+    write_all(
+        false,
+        &store[z..z],
+        out,
+        store,
+        pool,
+        rows,
+        spans,
+        flag,
+        o,
+        n,
+        starts,
+    )
 }

@@ -21,16 +21,19 @@ abbrev μ-loop : tie.MeasureT-loop
 μ-loop answer₀ fields i₀ answer i = length fields - i
 
 returns : tie.Need-returns Inv-loop μ-loop
-returns c = let s = c .before in sym (put-no-room (s .args .answer .now) 0 (s .args .fields .now) (omega arith))
+returns c =
+    let s = c .before in
+    sym (put-no-room (s .args .answer .now) 0 (s .args .fields .now) (omega arith))
 
 loop-holds : tie.Need-loop-holds Inv-loop μ-loop
 loop-holds c = (omega arith, refl, sym (put-none _ _))
 
 loop-again : tie.Need-loop-again Inv-loop μ-loop
 loop-again c =
+    let loop = c .before .before .loop in
     let s = c .before .before .before .before in
-    let i = c .before .before .loop .i in
-    let inv = c .before .before .loop .inv in
+    let i = loop .i in
+    let inv = loop .inv in
     let more = rw zero-add at (copy-more (s .args .answer .now) 0 (s .args .fields .now) i (omega arith)) in
     (omega arith, simp length-set (inv .1), ap (λ (l : List ℕ). set l i (getD (s .args .fields .now) i 0)) (inv .2) ∙ more)
 

@@ -104,7 +104,8 @@ module _ {M : Type 1} (𝓤 : URA M) (H : Heap 𝓤) (A : Atoms 𝓤) (W : Given
       move ! (1 ∷ []) $ fsplit ! $ use1 W (‵ Own ⊛ ‵ Own) (shr-slice-copy 𝓤 H A W (named 0) κ u8 .twice s (v ∷ [])) $ split ! $
       move ! (2 ∷ []) $ drop ! $ nothing ! $ owned ! usize (Is usize) (uint-makes 𝓤 H A W w64) n _ (refl, ok) $ fjoin ! $ move ! (1 ∷ 0 ∷ []) $ fjoin ! $ move ! (2 ∷ 0 ∷ []) $ use2 W (raw (New 𝓤 H A mem run .pre to-new)) (qed W ((‵ (flft κ q) ⊛ ‵ ftrue) ∷ ‵ (owns (ShrSlice (named 0) κ u8 ∷ usize ∷ []) (s, (n, tt)) (v ∷ [], (vint w64 n ∷ [], tt))) ∷ []) ∵ join ! $ frame ! $ done !) $ frame ! $ done !
 
-  new-said : (r : Cursor) → ent 𝓤 (ensured 𝓤 H A cursor-at.ended (cursor-at.clauses 𝓤 H A mem run) (κ, tt) (s, (n, tt)) tt r) (fact 𝓤 ((r .payload ≡ s) × (r .at ≡ n)))
+  new-said :
+      (r : Cursor) → ent 𝓤 (ensured 𝓤 H A cursor-at.ended (cursor-at.clauses 𝓤 H A mem run) (κ, tt) (s, (n, tt)) tt r) (fact 𝓤 ((r .payload ≡ s) × (r .at ≡ n)))
   new-said r = exE 𝓤 _ (λ ws. snd∗ 𝓤 (sem 𝓤 H A (lasts cursor-at.ended (κ, tt) (s, (n, tt)) ws)) (fact 𝓤 ((r .payload ≡ s) × (r .at ≡ n))))
 
   -- the call of `take`, at the struct r with the machine value u
@@ -114,7 +115,9 @@ module _ {M : Type 1} (𝓤 : URA M) (H : Heap 𝓤) (A : Atoms 𝓤) (W : Given
   goes-next : (r : Cursor) (u : Val) → ent 𝓤 (⋆ 𝓤 H A (‵ (B (κ, tt) .own r (u ∷ [])) ∷ (‵ (flft κ q) ⊛ ‵ ftrue) ∷ [])) (Next 𝓤 H A mem run .pre (to-next r u))
   goes-next r u = qed W (‵ (B (κ, tt) .own r (u ∷ [])) ∷ (‵ (flft κ q) ⊛ ‵ ftrue) ∷ []) ∵ nothing ! $ owned ! usize (Is usize) (uint-makes 𝓤 H A W w64) m _ (refl, okm) $ fjoin ! $ move ! (1 ∷ 0 ∷ []) $ fjoin ! $ move ! (1 ∷ 0 ∷ []) $ join ! $ frame ! $ done !
 
-  next-said : (r : Cursor) (t : Body) → ent 𝓤 (ensured 𝓤 H A take.ended (take.clauses 𝓤 H A mem run) (κ, tt) (r, (m, tt)) tt t) (fact 𝓤 (t ≡ bodyOf (now (r .payload)) (r .at) m))
+  next-said :
+      (r : Cursor) (t : Body) →
+      ent 𝓤 (ensured 𝓤 H A take.ended (take.clauses 𝓤 H A mem run) (κ, tt) (r, (m, tt)) tt t) (fact 𝓤 (t ≡ bodyOf (now (r .payload)) (r .at) m))
   next-said r t = exE 𝓤 _ (λ ws. snd∗ 𝓤 (sem 𝓤 H A (lasts take.ended (κ, tt) (r, (m, tt)) ws)) (fact 𝓤 (t ≡ bodyOf (now (r .payload)) (r .at) m)))
 
   exits : (t : Body) (u : Val) → t ≡ found → ent 𝓤 (⋆ 𝓤 H A (‵ (S.the-row .own t (u ∷ [])) ∷ (‵ (flft κ q) ⊛ ‵ ftrue) ∷ ‵ Own ∷ [])) (Post u)
@@ -124,7 +127,9 @@ module _ {M : Type 1} (𝓤 : URA M) (H : Heap 𝓤) (A : Atoms 𝓤) (W : Given
       move ! (1 ∷ []) $ frame ! $ nothing ! $ owned ! usize (Is usize) (uint-makes 𝓤 H A W w64) m _ (refl, okm) $ fjoin ! $ owned ! usize (Is usize) (uint-makes 𝓤 H A W w64) n _ (refl, ok) $ fjoin ! $ move ! (2 ∷ 0 ∷ []) $ fjoin ! $ frame ! $ done !
 
   module _ (C : Calls 𝓤 H) (Λ : Loops 𝓤 H) (fm : FmC 𝓤 H (W .laws) C) (known-new : Triple 𝓤 (C #cursor·cursor-at) (New 𝓤 H A mem run)) (known-next : Triple 𝓤 (C #cursor·take) (Next 𝓤 H A mem run)) where
-    walk : Is (ShrSlice (named 0) κ u8) s (v ∷ []) → ent 𝓤 (onEntry 𝓤 H A read-body.signature (κ, tt) (q, tt) (s, (n, (m, tt))) at) (WpFn 𝓤 H C Λ code.function (v ∷ vint w64 n ∷ vint w64 m ∷ []) Post)
+    walk :
+        Is (ShrSlice (named 0) κ u8) s (v ∷ []) →
+        ent 𝓤 (onEntry 𝓤 H A read-body.signature (κ, tt) (q, tt) (s, (n, (m, tt))) at) (WpFn 𝓤 H C Λ code.function (v ∷ vint w64 n ∷ vint w64 m ∷ []) Post)
     walk p =
         qed W (raw (onEntry 𝓤 H A read-body.signature (κ, tt) (q, tt) (s, (n, (m, tt))) at) ∷ []) ∵ enter ! C Λ code.function (v ∷ vint w64 n ∷ vint w64 m ∷ []) _ $
         alloc1 ! (λ l₀. alloc1 ! (λ l₁. alloc1 ! (λ l₂. alloc1 ! (λ l₃. alloc1 ! (λ l₄. alloc0 ! $ params1 ! $ pass1 ! (init ! 6 refl (shr-slice-lawful 𝓤 H A W (named 0) κ u8 .typed s (v ∷ []) p .0)) $ pass1 ! (init ! 4 refl (tt, record { fits = ok })) $ pass1 ! (init ! 2 refl (tt, record { fits = okm })) $ pass0 ! $
@@ -146,15 +151,24 @@ module _ {M : Type 1} (𝓤 : URA M) (H : Heap 𝓤) (A : Atoms 𝓤) (W : Given
         by ! (exits t u′ (e′ ∙ (ap (λ (x : RefT (List ℕ)). bodyOf (now x) (r .at) m) (e .0) ∙ ap (λ (k : ℕ). bodyOf (now s) k m) (e .1)))))))))))))))))
 
 module _ {M : Type 1} (𝓤 : URA M) (H : Heap 𝓤) (A : Atoms 𝓤) (W : Given 𝓤 H A) (mem : Memory → SProp 𝓤) (run : Routine → Fun 𝓤) where
-  read-body-walks : (C : Calls 𝓤 H) (Λ : Loops 𝓤 H) → FmC 𝓤 H (W .laws) C → Triple 𝓤 (C #cursor·cursor-at) (New 𝓤 H A mem run) → Triple 𝓤 (C #cursor·take) (Next 𝓤 H A mem run)
-      → Walks 𝓤 H A read-body.ended stayed (WpFn 𝓤 H C Λ code.function) (read-body.clauses 𝓤 H A mem run)
-  read-body-walks C Λ fm known-new known-next = walked 𝓤 H A read-body.ended stayed (read-body.clauses 𝓤 H A mem run) (WpFn 𝓤 H C Λ code.function) (λ κs. (slice-vals, (uint-vals w64, (uint-vals w64, tt)))) (λ κs. (shr-slice-tells (named 0) (κs .0) u8, (uint-tells w64, (uint-tells w64, tt))))
-      (λ κs qs bounds a g are. via 𝓤 _ (fst∗ 𝓤 _ (emp 𝓤)) (walk 𝓤 H A W mem run (κs .0) (qs .0) (a .0) (a .1 .0) (are .1 .0 .1) (a .1 .1 .0) (are .1 .1 .0 .1) C Λ fm known-new known-next (are .0)))
+  read-body-walks :
+      (C : Calls 𝓤 H) (Λ : Loops 𝓤 H) → FmC 𝓤 H (W .laws) C → Triple 𝓤 (C #cursor·cursor-at) (New 𝓤 H A mem run) →
+      Triple 𝓤 (C #cursor·take) (Next 𝓤 H A mem run) → Walks 𝓤 H A read-body.ended stayed (WpFn 𝓤 H C Λ code.function) (read-body.clauses 𝓤 H A mem run)
+  read-body-walks C Λ fm known-new known-next =
+      walked 𝓤 H A read-body.ended stayed (read-body.clauses 𝓤 H A mem run) (WpFn 𝓤 H C Λ code.function)
+      (λ κs. (slice-vals, (uint-vals w64, (uint-vals w64, tt)))) (λ κs. (shr-slice-tells (named 0) (κs .0) u8, (uint-tells w64, (uint-tells w64, tt))))
+      (λ κs qs bounds a g are.
+      via 𝓤 _ (fst∗ 𝓤 _ (emp 𝓤))
+      (walk 𝓤 H A W mem run (κs .0) (qs .0) (a .0) (a .1 .0) (are .1 .0 .1) (a .1 .1 .0) (are .1 .1 .0 .1) C Λ fm known-new known-next (are .0)))
 
 read-body-meets : {M : Type 1} (𝓤 : URA M) (H : Heap 𝓤) (A : Atoms 𝓤) (W : Given 𝓤 H A) (mem : Memory → SProp 𝓤) (run : Routine → Fun 𝓤) (𝓣 : Tables 𝓤 H)
     → Triple 𝓤 (𝓣 .C #cursor·cursor-at) (New 𝓤 H A mem run) → Triple 𝓤 (𝓣 .C #cursor·take) (Next 𝓤 H A mem run)
     → Meets 𝓤 H A read-body.signature (WpFn 𝓤 H (𝓣 .C) (𝓣 .Λ) code.function) (read-body.spec 𝓤 H A mem run)
-read-body-meets 𝓤 H A W mem run 𝓣 known-new known-next = walk-meets 𝓤 H A read-body.ended stayed W (goes-none-slice 𝓤 H A W 1 (0 ∷ []) tt (plain (λ _. u8)) yes, (goes-none 𝓤 H A W 1 (λ _. usize) yes (λ κs x f. refl), (goes-none 𝓤 H A W 1 (λ _. usize) yes (λ κs x f. refl), tt))) (read-body.clauses 𝓤 H A mem run) (WpFn 𝓤 H (𝓣 .C) (𝓣 .Λ) code.function) (WpFn-mono 𝓤 H (W .laws) 𝓣 code.function)
+read-body-meets 𝓤 H A W mem run 𝓣 known-new known-next =
+    walk-meets 𝓤 H A read-body.ended stayed W (
+      goes-none-slice 𝓤 H A W 1 (0 ∷ []) tt (plain (λ _. u8)) yes,
+      (goes-none 𝓤 H A W 1 (λ _. usize) yes (λ κs x f. refl), (goes-none 𝓤 H A W 1 (λ _. usize) yes (λ κs x f. refl), tt)),
+    ) (read-body.clauses 𝓤 H A mem run) (WpFn 𝓤 H (𝓣 .C) (𝓣 .Λ) code.function) (WpFn-mono 𝓤 H (W .laws) 𝓣 code.function)
     (read-body-walks 𝓤 H A W mem run (𝓣 .C) (𝓣 .Λ) (fmOf 𝓤 H (W .laws) 𝓣) known-new known-next)
 
 pub read-body-spec : {M : Type 1} → stated.statement M

@@ -11,37 +11,45 @@ mul-zero-u64-from : tie.Need-mul-zero-u64-from
 mul-zero-u64-from c =
     let fill = c .before .before .before .before .before .before .before .before .before .before .before in
     let filled = fill .fill-tables in
-    rw (c .before .before .counts-of .ensures) (omega (arith, begins-le (filled .ensures .rows-begin), filled .kept .1 .1 .0, fill .before .before .before .before .before .before .before .before .before .before .before .good .1 .1 .0 .0))
+    let good = fill .before .before .before .before .before .before .before .before .before .before .before .good in
+    rw (c .before .before .counts-of .ensures) (omega (arith, begins-le (filled .ensures .rows-begin), filled .kept .1 .1 .0, good .1 .1 .0 .0))
 
 mul-zero-u64-from-2 : tie.Need-mul-zero-u64-from-2
 mul-zero-u64-from-2 c =
-    let fill = c .before .before .before .before .before .before .before .before .before .before .before .before .before .before .before .before in
+    let at-counts-of = c .before .before .before .before .before .before .before in
+    let fill = at-counts-of .before .before .before .before .before .before .before .before .before in
     let filled = fill .fill-tables in
-    rw (c .before .before .before .before .before .before .before .counts-of .ensures) (omega (arith, begins-le (filled .ensures .spans-begin), filled .kept .1 .1 .1 .0, fill .before .before .before .before .before .before .before .before .before .before .before .good .1 .1 .1 .0 .0))
+    let good = fill .before .before .before .before .before .before .before .before .before .before .before .good in
+    rw (at-counts-of .counts-of .ensures) (omega (arith, begins-le (filled .ensures .spans-begin), filled .kept .1 .1 .1 .0, good .1 .1 .1 .0 .0))
 
 mul-zero-u64-from-3 : tie.Need-mul-zero-u64-from-3
 mul-zero-u64-from-3 c =
-    let fill = c .before .before .before .before .before .before .before .before .before .before .before .before .before .before .before .before .before .before .before .before .before .before .before .before .before in
+    let at-counts-of = c .before .before .before .before .before .before .before .before .before .before .before .before .before .before .before .before in
+    let fill = at-counts-of .before .before .before .before .before .before .before .before .before in
     let filled = fill .fill-tables in
-    rw (c .before .before .before .before .before .before .before .before .before .before .before .before .before .before .before .before .counts-of .ensures) (omega (arith, begins-le (filled .ensures .pool-begins), filled .kept .1 .1 .1 .1 .1 .0, fill .before .before .before .before .before .before .before .before .before .before .before .good .1 .1 .1 .1 .1 .0 .0))
+    let good = fill .before .before .before .before .before .before .before .before .before .before .before .good in
+    rw (at-counts-of .counts-of .ensures) (omega (arith, begins-le (filled .ensures .pool-begins), filled .kept .1 .1 .1 .1 .1 .0, good .1 .1 .1 .1 .1 .0 .0))
 
 same-length : tie.Need-same-length
 same-length c =
     let clear = c .before .before .before .before .before .before .before .before .before .before .before .before .before .before .before .before in
-    clear .zero-u64-from .kept .0 ∙ clear .before .before .before .before .before .before .before .before .before .before .before .before .fill-tables .kept .1 .1 .0
+    let fill-tables = clear .before .before .before .before .before .before .before .before .before .before .before .before .fill-tables in
+    clear .zero-u64-from .kept .0 ∙ fill-tables .kept .1 .1 .0
 
 same-length-2 : tie.Need-same-length-2
 same-length-2 c =
     let clear = c .before .before .before .before .before .before .before .before .before .before .before in
-    clear .zero-u64-from2 .kept .0 ∙ clear .before .before .before .before .before .before .before .before .before .before .before .before .before .before .before .before .before .fill-tables .kept .1 .1 .1 .0
+    let fill-tables = clear .before .before .before .before .before .before .before .before .before .before .before .before .before .before .before .before
+    .before .fill-tables in
+    clear .zero-u64-from2 .kept .0 ∙ fill-tables .kept .1 .1 .1 .0
 
 returns : tie.Need-returns
 returns c =
     let starts = c .before .before .before .before .before .before .before in
     let spans = starts .before .before .before .before in
     let rows = spans .before .before .before .before .before in
-    let counts = rows .before .before .before .counts-of .ensures in
     let filled = rows .before .before .before .before .before .before .before .before .before .before .before .before .fill-tables in
+    let counts = rows .before .before .before .counts-of .ensures in
     let kept = filled .kept .1 .1 in
     cleared (filled .ensures) (kept .0) (kept .1 .0) (kept .1 .1 .0) (kept .1 .1 .1 .0)
     (rw counts at (rows .zero-u64-from .ensures))

@@ -18,36 +18,52 @@ read-pool-requires c κs = strings-fit _ _ _ _ (c .before .limits-of .ensures)
 
 mul-end : tie.Need-mul-end
 mul-end c =
-    let read = was-pool (c .before .count .given .1) (c .before .before .before .before .before .read-pool .ensures) in
-    omega (arith, read .fits, strings-few _ _ _ _ (c .before .before .before .before .before .before .before .limits-of .ensures))
+    let at-read-pool = c .before .before .before .before .before in
+    let limits-of = at-read-pool .before .before .limits-of in
+    let read = was-pool (c .before .count .given .1) (at-read-pool .read-pool .ensures) in
+    omega (arith, read .fits, strings-few _ _ _ _ (limits-of .ensures))
 
 part-read-script-end : tie.Need-part-read-script-end
-part-read-script-end c = pool-room (was-pool (c .before .before .count .given .1) (c .before .before .before .before .before .before .read-pool .ensures)) (strings-fit _ _ _ _ (c .before .before .before .before .before .before .before .before .limits-of .ensures))
+part-read-script-end c =
+    let at-read-pool = c .before .before .before .before .before .before in
+    let limits-of = at-read-pool .before .before .limits-of in
+    pool-room (was-pool (c .before .before .count .given .1) (at-read-pool .read-pool .ensures)) (strings-fit _ _ _ _ (limits-of .ensures))
 
 read-script-requires : tie.Need-read-script-requires
 read-script-requires c κs =
-    let read = was-pool (c .before .before .before .before .before .before .count .given .1) (c .before .before .before .before .before .before .before .before .before .before .read-pool .ensures) in
-    let limits = c .before .before .before .before .before .before .before .before .before .before .before .before .limits-of .ensures in
+    let at-count = c .before .before .before .before .before .before in
+    let count = at-count .count in
+    let read-pool = at-count .before .before .before .before .read-pool in
+    let read = was-pool (count .given .1) (read-pool .ensures) in
+    let limits = at-count .before .before .before .before .before .before .limits-of .ensures in
     let room = strings-fit _ _ _ _ limits in
-    let n = c .before .before .before .before .before .before .count .given .0 .0 in
+    let n = count .given .0 .0 in
     let e : 2 * n - 0 ≡ 2 * n = omega arith in
     (tables-fit _ _ _ _ limits (read .inside), (starts-fit _ _ _ _ limits, (pool-whole read room _ e, pool-inside read room _ e)))
 
 returns-2 : tie.Need-returns-2
 returns-2 c =
-    let x = c .before .before .before .before .before .before .before .before .before .before .before .before .before .before .before .before .before .before .before .before .before .before .before .before .before .before .before .args in
-    let limits = c .before .before .before .before .before .before .before .before .before .before .before .before .before .before .before .before .before .before .before .limits-of in
-    let read = was-pool (c .before .before .before .before .before .before .before .before .before .before .before .before .before .count .given .1) (c .before .before .before .before .before .before .before .before .before .before .before .before .before .before .before .before .before .read-pool .ensures) in
-    let n = c .before .before .before .before .before .before .before .before .before .before .before .before .before .count .given .0 .0 in
+    let at-read-script = c .before .before .before .before .before .before in
+    let at-count = at-read-script .before .before .before .before .before .before .before in
+    let count = at-count .count in
+    let at-read-pool = at-count .before .before .before .before in
+    let limits = at-read-pool .before .before .limits-of in
+    let if1 = at-read-pool .before .before .before .if1 in
+    let x = at-read-pool .before .before .before .before .before .before .before .before .before .before .args in
+    let read = was-pool (count .given .1) (at-read-pool .read-pool .ensures) in
+    let n = count .given .0 .0 in
     let e : 2 * n - 0 ≡ 2 * n = omega arith in
-    rw (← limits .ensures) (filled-payload (capacities (limits .result)) (x .names .now) (x .bytes .now) (c .before .before .before .before .before .before .before .before .before .before .before .before .before .before .before .before .before .before .before .before .if1 .left) _ e read (c .before .before .before .before .before .before .read-script .ensures))
+    rw (← limits .ensures)
+    (filled-payload (capacities (limits .result)) (x .names .now) (x .bytes .now) (if1 .left) _ e read (at-read-script .read-script .ensures))
 
 returns-3 : tie.Need-returns-3
 returns-3 c =
-    let x = c .before .before .before .before .before .before .before .before .before .before .before .before .before .before .before .args in
-    let limits = c .before .before .before .before .before .before .before .limits-of in
-    let refused = no-pool (c .before .n .given .1) (c .before .before .before .before .before .read-pool .ensures) in
-    rw (← limits .ensures) (filled-no (no-pool-read (capacities (limits .result)) (x .names .now) (x .bytes .now) (c .before .before .before .before .before .before .before .before .if1 .left) refused))
+    let at-read-pool = c .before .before .before .before .before in
+    let limits = at-read-pool .before .before .limits-of in
+    let if1 = at-read-pool .before .before .before .if1 in
+    let x = at-read-pool .before .before .before .before .before .before .before .before .before .before .args in
+    let refused = no-pool (c .before .n .given .1) (at-read-pool .read-pool .ensures) in
+    rw (← limits .ensures) (filled-no (no-pool-read (capacities (limits .result)) (x .names .now) (x .bytes .now) (if1 .left) refused))
 
 pub fill-tables-spec : {M : Type 1} → statement M
 fill-tables-spec =

@@ -6,7 +6,13 @@ use Rattle.deserialize.proofs.limits_of.Tie as tie
 
 returns : tie.Need-returns
 unfolding capacitiesOf
-returns c = rw (c .before .before .before .row-capacity .ensures, c .before .before .span-capacity .ensures, c .before .string-capacity .ensures, c .start-capacity .ensures)
+returns c =
+    rw (
+      c .before .before .before .row-capacity .ensures,
+      c .before .before .span-capacity .ensures,
+      c .before .string-capacity .ensures,
+      c .start-capacity .ensures,
+    )
 
 pub limits-of-spec : {M : Type 1} → statement M
 limits-of-spec =

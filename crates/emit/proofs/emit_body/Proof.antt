@@ -6,39 +6,28 @@ use Rattle.emit.specs.Laws.Bytes.{emitted-like, emitted-over}
 use Rattle.emit.specs.Laws.Emit.{put-out}
 use Rattle.emit.proofs.emit_body.Tie as tie
 
-compare-body-requires : tie.Need-compare-body-requires
-compare-body-requires c κs = search needs
-
 returns : tie.Need-returns
-returns c = emitted-like (c .before .if1 .taken) (c .before .before .before .before .before .pre .room) (c .compare-body .ensures)
-
-advance-requires : tie.Need-advance-requires
-advance-requires c κs = search needs
+returns c =
+    let pre = c .before .before .before .before .before .pre in
+    emitted-like (c .before .if1 .taken) (pre .room) (c .compare-body .ensures)
 
 returns-2 : tie.Need-returns-2
 returns-2 c = emitted-over (c .before .before .if1 .left) (sym (put-out _ _ _ (c .before .if2 .taken))) (c .advance .ensures)
 
-store-body-requires : tie.Need-store-body-requires
-store-body-requires c κs = search needs
-
-advance-requires-2 : tie.Need-advance-requires-2
-advance-requires-2 c κs = search needs
-
-same-length : tie.Need-same-length
-same-length c = search needs
-
 returns-3 : tie.Need-returns-3
-returns-3 c = emitted-over (c .before .before .before .before .before .before .if1 .left) (c .before .before .before .store-body .ensures) (c .advance2 .ensures)
+returns-3 c =
+    let if1 = c .before .before .before .before .before .before .if1 in
+    emitted-over (if1 .left) (c .before .before .before .store-body .ensures) (c .advance2 .ensures)
 
 pub emit-body-spec : {M : Type 1} → statement M
 emit-body-spec =
     tie.close
     (tie.spec
-    compare-body-requires
+    (λ c κs. search needs)
     returns
-    advance-requires
+    (λ c κs. search needs)
     returns-2
-    store-body-requires
-    advance-requires-2
-    same-length
+    (λ c κs. search needs)
+    (λ c κs. search needs)
+    (λ c. search needs)
     returns-3)

@@ -10,32 +10,19 @@ returns c = far-byte (c .before .pre .room) (c .if1 .taken)
 returns-2 : tie.Need-returns-2
 returns-2 c = end-byte (c .before .if2 .taken) (c .before .before .before .pre .room) (c .if3 .taken)
 
-shared-slice-read-if4 : tie.Need-shared-slice-read-if4
-shared-slice-read-if4 c = search needs
-
-add-result : tie.Need-add-result
-add-result c = search needs
-
 returns-3 : tie.Need-returns-3
-returns-3 c = same-byte (c .before .before .before .if2 .taken) (c .before .before .before .before .before .pre .room) (c .before .before .if3 .left) (c .before .before .before .before .if1 .left) (c .if4 .taken)
+returns-3 c =
+    let at-if1 = c .before .before .before .before in
+    let pre = at-if1 .before .pre in
+    same-byte (c .before .before .before .if2 .taken) (pre .room) (c .before .before .if3 .left) (at-if1 .if1 .left) (c .if4 .taken)
 
 returns-4 : tie.Need-returns-4
-returns-4 c = other-byte (c .before .before .before .if2 .taken) (c .before .before .before .before .before .pre .room) (c .before .before .if3 .left) (c .if4 .left)
-
-slice-write-out : tie.Need-slice-write-out
-slice-write-out c = search needs
-
-add-result-2 : tie.Need-add-result-2
-add-result-2 c = search needs
-
-same-length : tie.Need-same-length
-same-length c = search needs
+returns-4 c =
+    let pre = c .before .before .before .before .before .pre in
+    other-byte (c .before .before .before .if2 .taken) (pre .room) (c .before .before .if3 .left) (c .if4 .left)
 
 returns-5 : tie.Need-returns-5
 returns-5 c = in-byte (c .before .if2 .left) (c .before .before .before .pre .room) (c .if5 .taken)
-
-add-result-3 : tie.Need-add-result-3
-add-result-3 c = search needs
 
 returns-6 : tie.Need-returns-6
 returns-6 c = past-byte (c .before .if2 .left) (c .before .before .if1 .left) (c .if5 .left)
@@ -46,13 +33,13 @@ emit-byte-spec =
     (tie.spec
     returns
     returns-2
-    shared-slice-read-if4
-    add-result
+    (λ c. search needs)
+    (λ c. search needs)
     returns-3
     returns-4
-    slice-write-out
-    add-result-2
-    same-length
+    (λ c. search needs)
+    (λ c. search needs)
+    (λ c. search needs)
     returns-5
-    add-result-3
+    (λ c. search needs)
     returns-6)

@@ -11,7 +11,8 @@ use Rattle.emit.specs.Laws.Emit.{Emitting, emitting-start, emitting-read
 use Rattle.emit.proofs.emit_groups.Tie as tie
 
 abbrev Inv-loop : tie.InvT-loop
-Inv-loop comparing payload out₀ at n rest₀ i₀ out rest i = Emitting comparing payload (emit comparing payload (output out₀ at) (uleb128 n)) out₀ out i (uleb128 rest) × (rest ≤ n)
+Inv-loop comparing payload out₀ at n rest₀ i₀ out rest i =
+    Emitting comparing payload (emit comparing payload (output out₀ at) (uleb128 n)) out₀ out i (uleb128 rest) × (rest ≤ n)
 
 abbrev μ-loop : tie.MeasureT-loop
 μ-loop comparing payload out₀ at n rest₀ i₀ out rest i = rest
@@ -19,32 +20,28 @@ abbrev μ-loop : tie.MeasureT-loop
 loop-holds : tie.Need-loop-holds Inv-loop μ-loop
 loop-holds c = (emitting-start (c .before .before .pre), omega arith)
 
-add-emit-byte : tie.Need-add-emit-byte Inv-loop μ-loop
-add-emit-byte c = search needs
-
-cast-emit-byte : tie.Need-cast-emit-byte Inv-loop μ-loop
-cast-emit-byte c = search needs
-
 emit-byte-requires : tie.Need-emit-byte-requires Inv-loop μ-loop
 emit-byte-requires c κs = emitting-ready (c .before .before .loop .inv .0)
 
-loop-less : tie.Need-loop-less Inv-loop μ-loop
-loop-less c = search needs
-
 loop-again : tie.Need-loop-again Inv-loop μ-loop
-loop-again c = (emitting-next (c .before .before .before .before .before .loop .inv .0) (uleb-large (c .before .before .before .before .before .loop .rest) (c .before .before .before .before .loop-test .taken)) (c .before .before .emit-byte .ensures), omega arith)
-
-cast-emit-byte-2 : tie.Need-cast-emit-byte-2 Inv-loop μ-loop
-cast-emit-byte-2 c = search needs
+loop-again c =
+    let at-loop-test = c .before .before .before .before in
+    let loop = at-loop-test .before .loop in
+    (emitting-next (loop .inv .0) (uleb-large (loop .rest) (at-loop-test .loop-test .taken)) (c .before .before .emit-byte .ensures), omega arith)
 
 emit-byte-requires-2 : tie.Need-emit-byte-requires-2 Inv-loop μ-loop
 emit-byte-requires-2 c κs = emitting-ready (c .before .before .loop .inv .0)
 
 same-length : tie.Need-same-length Inv-loop μ-loop
-same-length c = emitted-long (c .before .before .emit-byte2 .ensures) ∙ c .before .before .before .before .before .loop .inv .0 .long
+same-length c =
+    let loop = c .before .before .before .before .before .loop in
+    emitted-long (c .before .before .emit-byte2 .ensures) ∙ loop .inv .0 .long
 
 returns : tie.Need-returns Inv-loop μ-loop
-returns c = emitting-last (c .before .before .before .before .before .loop .inv .0) (uleb-small (c .before .before .before .before .before .loop .rest) (c .before .before .before .before .loop-test .left)) (c .before .before .emit-byte2 .ensures)
+returns c =
+    let at-loop-test = c .before .before .before .before in
+    let loop = at-loop-test .before .loop in
+    emitting-last (loop .inv .0) (uleb-small (loop .rest) (at-loop-test .loop-test .left)) (c .before .before .emit-byte2 .ensures)
 
 pub emit-groups-spec : {M : Type 1} → statement M
 emit-groups-spec =
@@ -53,12 +50,12 @@ emit-groups-spec =
     Inv-loop
     μ-loop
     loop-holds
-    add-emit-byte
-    cast-emit-byte
+    (λ c. search needs)
+    (λ c. search needs)
     emit-byte-requires
-    loop-less
+    (λ c. search needs)
     loop-again
-    cast-emit-byte-2
+    (λ c. search needs)
     emit-byte-requires-2
     same-length
     returns)

@@ -9,47 +9,36 @@ use Rattle.emit.specs.Emit.{further}
 use Rattle.emit.specs.Laws.Bytes.{emitted-past, emitted-in}
 use Rattle.emit.proofs.emit_varint.Tie as tie
 
-uvarint-width-requires : tie.Need-uvarint-width-requires
-uvarint-width-requires c κs = search needs
-
-advance-requires : tie.Need-advance-requires
-advance-requires c κs = search needs
-
 returns : tie.Need-returns
-returns c = emitted-past (c .before .before .before .if1 .taken) (c .before .before .if2 .taken) (c .advance .ensures ∙ ap (further (c .before .before .before .before .before .before .args .at)) (c .before .uvarint-width .ensures))
-
-sub-if3 : tie.Need-sub-if3
-sub-if3 c = search needs
+returns c =
+    let args = c .before .before .before .before .before .before .args in
+    emitted-past (c .before .before .before .if1 .taken) (c .before .before .if2 .taken)
+    (c .advance .ensures ∙ ap (further (args .at)) (c .before .uvarint-width .ensures))
 
 write-uvarint-requires : tie.Need-write-uvarint-requires
-write-uvarint-requires c κs = omega (arith, uleb-at-most 9 (c .before .before .before .before .before .before .args .n) (omega arith))
-
-same-length : tie.Need-same-length
-same-length c = search needs
+write-uvarint-requires c κs =
+    let args = c .before .before .before .before .before .before .args in
+    omega (arith, uleb-at-most 9 (args .n) (omega arith))
 
 returns-2 : tie.Need-returns-2
-returns-2 c = emitted-in (not-true _ (c .before .before .before .before .before .before .if1 .taken)) (c .before .before .before .before .before .before .before .before .before .pre .room) (omega (arith, uleb-at-most 9 (c .before .before .before .before .before .before .before .before .before .args .n) (omega arith))) (c .before .before .write-uvarint .ensures .1) (c .before .before .write-uvarint .ensures .0)
-
-emit-groups-requires : tie.Need-emit-groups-requires
-emit-groups-requires c κs = search needs
-
-same-length-2 : tie.Need-same-length-2
-same-length-2 c = search needs
-
-returns-3 : tie.Need-returns-3
-returns-3 c = search needs
+returns-2 c =
+    let write-uvarint = c .before .before .write-uvarint in
+    let at-if1 = c .before .before .before .before .before .before in
+    let start = at-if1 .before .before .before in
+    emitted-in (not-true _ (at-if1 .if1 .taken)) (start .pre .room) (omega (arith, uleb-at-most 9 (start .args .n) (omega arith))) (write-uvarint .ensures .1)
+    (write-uvarint .ensures .0)
 
 pub emit-varint-spec : {M : Type 1} → statement M
 emit-varint-spec =
     tie.close
     (tie.spec
-    uvarint-width-requires
-    advance-requires
+    (λ c κs. search needs)
+    (λ c κs. search needs)
     returns
-    sub-if3
+    (λ c. search needs)
     write-uvarint-requires
-    same-length
+    (λ c. search needs)
     returns-2
-    emit-groups-requires
-    same-length-2
-    returns-3)
+    (λ c κs. search needs)
+    (λ c. search needs)
+    (λ c. search needs))

@@ -8,19 +8,16 @@ use Rattle.gather.proofs.gather_name.Statement.{statement}
 use Rattle.gather.proofs.gather_name.Tie as tie
 
 returns : tie.Need-returns
-returns c = interned-as refl (name-none (c .before .before .before .args .store .now) (c .before .before .before .args .flag) _ _ (c .if1 .taken)) (interned-none (c .before .before .before .pre))
-
-intern-from-requires : tie.Need-intern-from-requires
-intern-from-requires c κs = search needs
-
-to-gathered-requires : tie.Need-to-gathered-requires
-to-gathered-requires c κs = search needs
-
-same-length : tie.Need-same-length
-same-length c = search needs
+returns c =
+    let start = c .before .before .before in
+    interned-as refl (name-none (start .args .store .now) (start .args .flag) _ _ (c .if1 .taken)) (interned-none (start .pre))
 
 returns-2 : tie.Need-returns-2
-returns-2 c = interned-as refl (name-there (c .before .before .before .before .before .before .before .before .args .store .now) (c .before .before .before .before .before .before .before .before .args .flag) _ _ (c .before .before .before .before .before .if1 .left)) (interned-one (c .before .before .before .before .before .before .before .before .pre) _ _ (c .before .before .before .intern-from .ensures) (c .to-gathered .ensures))
+returns-2 c =
+    let at-if1 = c .before .before .before .before .before in
+    let args = at-if1 .before .before .before .args in
+    interned-as refl (name-there (args .store .now) (args .flag) _ _ (at-if1 .if1 .left))
+    (interned-one _ _ (c .before .before .before .intern-from .ensures) (c .to-gathered .ensures))
 
 pub gather-name-spec : {M : Type 1} → statement M
-gather-name-spec = tie.close (tie.spec returns intern-from-requires to-gathered-requires same-length returns-2)
+gather-name-spec = tie.close (tie.spec returns (λ c κs. search needs) (λ c κs. search needs) (λ c. search needs) returns-2)

@@ -1,115 +1,116 @@
 -- `gather::intern_at` meets its contract: the part cut to the store becomes the last entry, unless an entry has its bytes.
-use mathlib.Core.List.{List}
-use mathlib.Core.Path.{_≡_, ap, sym, _∙_}
-use Prim.Native.Nat.{ℕ}
-use native.Mathlib.Omega.{arith}
-use lib.ListN.{length-set, length}
-use borrow.Author.Needs.{needs}
-use Rattle.payload.specs.Write.{hasBytes}
-use Rattle.gather.specs.Interning.{partsOf, firstParts}
-use Rattle.gather.specs.Laws.Interning.{capacity-is, lent-entries}
+use Rattle.hash.specs.Hash.{hashOf}
+use Rattle.gather.specs.Laws.Entries.{mark-is}
+use Rattle.gather.specs.Laws.Interning.{capacity-is, cut-bytes, lent-all}
+use Rattle.gather.specs.Laws.Searching.{found-as}
 use Rattle.gather.specs.Laws.Placing.{placed-there, placed-new, placed-full}
-use Rattle.pool_index.specs.Strings.{bytesAt}
+use mathlib.Core.Path.{ap, _∙_}
+use native.Mathlib.Omega.{arith}
+use lib.ListN.{length}
+use borrow.Author.Needs.{needs}
 use Rattle.gather.proofs.intern_at.Statement.{statement}
 use Rattle.gather.proofs.intern_at.Tie as tie
 
--- whether an entry has the bytes of the part cut to the store
-found : (c : tie.After-is-pooled) → c .is-pooled .result ≡ hasBytes (bytesAt (c .before .before .before .before .before .before .before .args .store .now) (c .before .before .before .before .cut .result) (c .before .before .before .cut2 .result)) (firstParts (c .before .before .before .before .before .before .before .args .store .now) (c .before .before .before .before .before .before .before .args .table .now) (c .before .before .before .before .before .before .before .args .used))
-found c = c .is-pooled .ensures ∙ ap (λ (w : List ℕ). hasBytes (bytesAt (c .before .before .before .before .before .before .before .args .store .now) (c .before .before .before .before .cut .result) (c .before .before .before .cut2 .result)) (partsOf (c .before .before .before .before .before .before .before .args .store .now) w)) (lent-entries (c .before .before .before .before .before .before .before .args .used) (c .before .before .before .before .before .before .before .args .table .now))
-
-cut-requires : tie.Need-cut-requires
-cut-requires c κs = search needs
-
-sub-cut : tie.Need-sub-cut
-sub-cut c = search needs
-
-cut-requires-2 : tie.Need-cut-requires-2
-cut-requires-2 c κs = search needs
-
-mul-end : tie.Need-mul-end
-mul-end c = search needs
-
-mul-is-pooled : tie.Need-mul-is-pooled
-mul-is-pooled c = search needs
-
-sub-is-pooled : tie.Need-sub-is-pooled
-sub-is-pooled c = search needs
-
-part-is-pooled-start : tie.Need-part-is-pooled-start
-part-is-pooled-start c = search needs
-
-part-is-pooled-end : tie.Need-part-is-pooled-end
-part-is-pooled-end c = search needs
-
-is-pooled-requires : tie.Need-is-pooled-requires
-is-pooled-requires c κs = ((omega (arith, c .before .before .before .cut .ensures, c .before .before .cut2 .ensures), c .before .before .before .before .before .before .pre .short), rw (lent-entries (c .before .before .before .before .before .before .args .used) (c .before .before .before .before .before .before .args .table .now)) (c .before .before .before .before .before .before .pre .inside))
-
-same-length : tie.Need-same-length
-same-length c = search needs
-
-returns : tie.Need-returns
-returns c = placed-there _ _ _ (c .before .before .before .before .before .before .before .before .args .o) (c .before .before .before .before .before .before .before .before .args .n) (c .before .before .before .before .before .cut .result) (c .before .before .before .before .cut2 .result) (c .before .before .before .before .before .cut .ensures) (c .before .before .before .before .cut2 .ensures) (sym (c .if1 .taken) ∙ found (c .before))
-
-string-capacity-requires : tie.Need-string-capacity-requires
-string-capacity-requires c κs = search needs
-
-mul-table : tie.Need-mul-table
-mul-table c = search needs
-
-slice-write-table : tie.Need-slice-write-table
-slice-write-table c = omega (arith, c .before .string-capacity .ensures, capacity-is 0 0 0 (length (c .before .before .before .before .before .before .before .before .before .before .args .table .now)), c .if2 .taken)
+find-requires : tie.Need-find-requires
+find-requires c κs =
+    let at-cut2 = c .before .before .before .before in
+    let cut2 = at-cut2 .cut2 in
+    let cut = at-cut2 .before .cut in
+    let start = at-cut2 .before .before .before .before in (
+      rw (lent-all (start .args .table .now)) (start .pre),
+      (
+        omega (arith, cut .ensures, cut2 .ensures),
+        c .before .before .hash .ensures
+            ∙ ap hashOf (c .before .before .before .bytes-at .ensures ∙ cut-bytes (start .args .store .now) _ _ _ _ (cut .ensures) (cut2 .ensures)),
+      ),
+    )
 
 mark-requires : tie.Need-mark-requires
-mark-requires c κs = (omega (arith, c .before .before .before .before .before .before .before .cut .ensures, c .before .before .before .before .before .before .cut2 .ensures), c .before .before .before .before .before .before .before .before .before .before .pre .short)
+mark-requires c κs =
+    let at-cut2 = c .before .before .before .before .before .before .before .before .before .before .before in
+    let cut = at-cut2 .before .cut in
+    let pre = at-cut2 .before .before .before .before .pre in
+    omega (arith, pre .short, cut .ensures, at-cut2 .cut2 .ensures)
 
-add-table : tie.Need-add-table
-add-table c = search needs
+add-requires : tie.Need-add-requires
+add-requires c κs =
+    let if1 = c .before .before .if1 in
+    let string-capacity = c .before .before .before .string-capacity in
+    let at-slot = c .before .before .before .before .before in
+    let find = at-slot .before .before .find in
+    let args = at-slot .before .before .before .before .before .before .before .before .before .before .before .args in
+    let g = found-as (lent-all (args .table .now)) (at-slot .slot .given .1) (find .ensures) .sought in (
+      omega (arith, g .low, string-capacity .ensures, capacity-is 0 0 0 (length (args .table .now)), if1 .taken),
+      omega (arith, string-capacity .ensures, capacity-is 0 0 0 (length (args .table .now)), if1 .taken),
+      omega (arith, string-capacity .ensures, capacity-is 0 0 0 (length (args .table .now)), if1 .taken),
+    )
 
-mul-table-2 : tie.Need-mul-table-2
-mul-table-2 c = search needs
-
-slice-write-table-2 : tie.Need-slice-write-table-2
-slice-write-table-2 c = simp length-set (omega (arith, c .before .before .string-capacity .ensures, capacity-is 0 0 0 (length (c .before .before .before .before .before .before .before .before .before .before .before .args .table .now)), c .before .if2 .taken))
-
-add-t18 : tie.Need-add-t18
-add-t18 c = search needs
-
-same-length-2 : tie.Need-same-length-2
-same-length-2 c = search needs
+returns : tie.Need-returns
+returns c =
+    let at-if1 = c .before .before .before .before .before in
+    let string-capacity = at-if1 .before .string-capacity in
+    let slot = at-if1 .before .before .before .slot in
+    let at-find = at-if1 .before .before .before .before .before in
+    let hash = at-find .before .before .before .hash in
+    let at-bytes-at = at-find .before .before .before .before in
+    let cut2 = at-bytes-at .before .cut2 in
+    let cut = at-bytes-at .before .before .cut in
+    let start = at-bytes-at .before .before .before .before .before in
+    let args = start .args in
+    let g = found-as (lent-all (args .table .now)) (slot .given .1) (at-find .find .ensures) .sought in
+    rw (
+      c .before .before .add .ensures,
+      mark-is (args .store .now) (cut .result) (cut2 .result) (hash .result) (omega (arith, cut .ensures, cut2 .ensures))
+          (hash .ensures ∙ ap hashOf (at-bytes-at .bytes-at .ensures ∙ cut-bytes (args .store .now) _ _ _ _ (cut .ensures) (cut2 .ensures)))
+          (c .before .before .before .mark .ensures),
+    )
+    (placed-new (start .pre) (args .o) (args .n) (cut .result) (cut2 .result) (cut .ensures) (cut2 .ensures) _ g
+    (omega (arith, string-capacity .ensures, capacity-is 0 0 0 (length (args .table .now)), at-if1 .if1 .taken)))
 
 returns-2 : tie.Need-returns-2
-returns-2 c = rw (c .mark .ensures) (placed-new _ _ _ (c .before .before .before .before .before .before .before .before .before .before .before .args .o) (c .before .before .before .before .before .before .before .before .before .before .before .args .n) (c .before .before .before .before .before .before .before .before .cut .result) (c .before .before .before .before .before .before .before .cut2 .result) (c .before .before .before .before .before .before .before .before .cut .ensures) (c .before .before .before .before .before .before .before .cut2 .ensures) (sym (c .before .before .before .if1 .left) ∙ found (c .before .before .before .before)) (omega (arith, c .before .before .string-capacity .ensures, capacity-is 0 0 0 (length (c .before .before .before .before .before .before .before .before .before .before .before .args .table .now)), c .before .if2 .taken)))
-
-same-length-3 : tie.Need-same-length-3
-same-length-3 c = search needs
+returns-2 c =
+    let at-cut2 = c .before .before .before .before .before .before .before .before in
+    let cut2 = at-cut2 .cut2 in
+    let cut = at-cut2 .before .cut in
+    let start = at-cut2 .before .before .before .before in
+    let g = found-as (lent-all (start .args .table .now)) (c .before .k .given .1) (c .before .before .before .find .ensures) .sought in
+    placed-there (start .pre) (start .args .o) (start .args .n) (cut .result) (cut2 .result) (cut .ensures) (cut2 .ensures) _ (g .0) (g .1)
 
 returns-3 : tie.Need-returns-3
-returns-3 c = placed-full _ _ _ (c .before .before .before .before .before .before .before .before .before .before .args .o) (c .before .before .before .before .before .before .before .before .before .before .args .n) (c .before .before .before .before .before .before .before .cut .result) (c .before .before .before .before .before .before .cut2 .result) (c .before .before .before .before .before .before .before .cut .ensures) (c .before .before .before .before .before .before .cut2 .ensures) (sym (c .before .before .if1 .left) ∙ found (c .before .before .before)) (omega (arith, c .before .string-capacity .ensures, capacity-is 0 0 0 (length (c .before .before .before .before .before .before .before .before .before .before .args .table .now)), c .if2 .left))
+returns-3 c =
+    let at-find = c .before .before .before .before .before in
+    let at-cut2 = at-find .before .before .before .before .before in
+    let cut2 = at-cut2 .cut2 in
+    let cut = at-cut2 .before .cut in
+    let start = at-cut2 .before .before .before .before in
+    let args = start .args in
+    let g = found-as (lent-all (args .table .now)) (c .before .before .before .slot .given .1) (at-find .find .ensures) .sought in
+    placed-full (start .pre) (args .o) (args .n) (cut .result) (cut2 .result) (cut .ensures) (cut2 .ensures) _ g
+    (omega (arith, c .before .string-capacity .ensures, capacity-is 0 0 0 (length (args .table .now)), c .if1 .left))
 
 pub intern-at-spec : {M : Type 1} → statement M
 intern-at-spec =
     tie.close
     (tie.spec
-    cut-requires
-    sub-cut
-    cut-requires-2
-    mul-end
-    mul-is-pooled
-    sub-is-pooled
-    part-is-pooled-start
-    part-is-pooled-end
-    is-pooled-requires
-    same-length
-    returns
-    string-capacity-requires
-    mul-table
-    slice-write-table
+    (λ c κs. search needs)
+    (λ c. search needs)
+    (λ c κs. search needs)
+    (λ c κs. search needs)
+    (λ c κs. search needs)
+    (λ c. search needs)
+    (λ c. search needs)
+    (λ c. search needs)
+    (λ c. search needs)
+    find-requires
+    (λ c. search needs)
+    (λ c. search needs)
+    (λ c κs. search needs)
     mark-requires
-    add-table
-    mul-table-2
-    slice-write-table-2
-    add-t18
-    same-length-2
+    add-requires
+    (λ c. search needs)
+    (λ c. search needs)
+    returns
+    (λ c. search needs)
     returns-2
-    same-length-3
+    (λ c. search needs)
     returns-3)

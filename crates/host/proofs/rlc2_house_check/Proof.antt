@@ -12,54 +12,50 @@ use Rattle.host.specs.Host.{checkCapacities}
 use Rattle.host.proofs.rlc2_house_check.Statement.{statement}
 use Rattle.host.proofs.rlc2_house_check.Tie as tie
 
-capacities-are : (rows spans starts pool : List ℕ) → length rows ≡ 2560 → length spans ≡ 2048 → length starts ≡ 512 → length pool ≡ 512 → capacitiesOf (length rows) (length spans) (length starts) (length pool) ≡ checkCapacities
+capacities-are :
+    (rows spans starts pool : List ℕ) → length rows ≡ 2560 → length spans ≡ 2048 → length starts ≡ 512 → length pool ≡ 512 →
+    capacitiesOf (length rows) (length spans) (length starts) (length pool) ≡ checkCapacities
 unfolding capacitiesOf
 capacities-are rows spans starts pool a b c d = rw (a, b, c, d)
 
-number-is : (names p rows spans starts pool : List ℕ) {rows′ spans′ starts′ pool′ : List ℕ} {r : Read} → length rows ≡ 2560 → length spans ≡ 2048 → length starts ≡ 512 → length pool ≡ 512
-    → Leaves (house (capacitiesOf (length rows) (length spans) (length starts) (length pool)) names p) rows spans starts pool rows′ spans′ starts′ pool′ r → readNumber r ≡ readNumber (readAnswer (house checkCapacities names p))
-number-is names p rows spans starts pool a b c d h = ap readNumber (h .answer) ∙ ap (λ (k : Capacities). readNumber (readAnswer (house k names p))) (capacities-are rows spans starts pool a b c d)
+number-is :
+    (names p rows spans starts pool : List ℕ) {rows′ spans′ starts′ pool′ : List ℕ} {r : Read} → length rows ≡ 2560 → length spans ≡ 2048 →
+    length starts ≡ 512 → length pool ≡ 512 →
+    Leaves (house (capacitiesOf (length rows) (length spans) (length starts) (length pool)) names p) rows spans starts pool rows′ spans′ starts′ pool′ r →
+    readNumber r ≡ readNumber (readAnswer (house checkCapacities names p))
+number-is names p rows spans starts pool a b c d h =
+    ap readNumber (h .answer) ∙ ap (λ (k : Capacities). readNumber (readAnswer (house k names p))) (capacities-are rows spans starts pool a b c d)
 
-said : (c : tie.After-house-check) → readNumber (c .house-check .result) ≡ readNumber (readAnswer (house checkCapacities (c .before .before .before .before .before .before .before .args .names .now) (c .before .before .before .before .before .before .before .args .payload .now)))
-said c = number-is (c .before .before .before .before .before .before .before .args .names .now) (c .before .before .before .before .before .before .before .args .payload .now) (replicate 2560 0) (replicate 2048 0) (replicate 512 0) (replicate 512 0) (length-replicate {A = ℕ} 2560 0) (length-replicate {A = ℕ} 2048 0) (length-replicate {A = ℕ} 512 0) (length-replicate {A = ℕ} 512 0) (c .house-check .ensures)
-
-slice-aggregate-house-check : tie.Need-slice-aggregate-house-check
-slice-aggregate-house-check c = search needs
-
-slice-aggregate-house-check-2 : tie.Need-slice-aggregate-house-check-2
-slice-aggregate-house-check-2 c = search needs
-
-slice-aggregate-house-check-3 : tie.Need-slice-aggregate-house-check-3
-slice-aggregate-house-check-3 c = search needs
-
-slice-aggregate-house-check-4 : tie.Need-slice-aggregate-house-check-4
-slice-aggregate-house-check-4 c = search needs
-
-house-check-requires : tie.Need-house-check-requires
-house-check-requires c κs = search needs
-
-enum-told : tie.Need-enum-told
-enum-told c = search needs
-
-enum-known-number : tie.Need-enum-known-number
-enum-known-number c = search needs
+said :
+    (c : tie.After-house-check) →
+    let args = c .before .before .before .before .before .before .before .args in
+    readNumber (c .house-check .result) ≡ readNumber (readAnswer (house checkCapacities (args .names .now) (args .payload .now)))
+said c =
+    let args = c .before .before .before .before .before .before .before .args in
+    number-is (args .names .now) (args .payload .now) (replicate 2560 0) (replicate 2048 0) (replicate 512 0) (replicate 512 0)
+    (length-replicate {A = ℕ} 2560 0) (length-replicate {A = ℕ} 2048 0) (length-replicate {A = ℕ} 512 0) (length-replicate {A = ℕ} 512 0)
+    (c .house-check .ensures)
 
 returns : tie.Need-returns
-returns c = ap readNumber (sym (c .enum-told .given .1)) ∙ said (c .before .before .before .before .before .before)
+returns c =
+    let at-house-check = c .before .before .before .before .before .before in
+    ap readNumber (sym (c .enum-told .given .1)) ∙ said at-house-check
 
 returns-2 : tie.Need-returns-2
-returns-2 c = ap readNumber (sym (c .before .number .given .1)) ∙ said (c .before .before .before .before .before .before .before)
+returns-2 c =
+    let at-house-check = c .before .before .before .before .before .before .before in
+    ap readNumber (sym (c .before .number .given .1)) ∙ said at-house-check
 
 pub rlc2-house-check-spec : {M : Type 1} → statement M
 rlc2-house-check-spec =
     tie.close
     (tie.spec
-    slice-aggregate-house-check
-    slice-aggregate-house-check-2
-    slice-aggregate-house-check-3
-    slice-aggregate-house-check-4
-    house-check-requires
-    enum-told
-    enum-known-number
+    (λ c. search needs)
+    (λ c. search needs)
+    (λ c. search needs)
+    (λ c. search needs)
+    (λ c κs. search needs)
+    (λ c. search needs)
+    (λ c. search needs)
     returns
     returns-2)

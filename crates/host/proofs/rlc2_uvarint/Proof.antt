@@ -34,19 +34,24 @@ module _ (number : List ℕ) (h : 8 ≤ length number) where
   refused refusal place = (simp (le-ltb (length number) 8 h), refl)
 
 returns : tie.Need-returns
-returns c = let s = c .before .before .before in no-room (varintOf (s .args .bytes .now) 0) (s .args .number .now) (c .if1 .taken)
+returns c =
+    let s = c .before .before .before in
+    no-room (varintOf (s .args .bytes .now) 0) (s .args .number .now) (c .if1 .taken)
 
 returns-2 : tie.Need-returns-2
 returns-2 c =
     let arm = c .before .before .before .before .before in
+    let uvarint = arm .before .before .uvarint in
+    let if1 = arm .before .before .before .if1 in
     let s = arm .before .before .before .before .before .before in
-    let said = read (s .args .number .now) (arm .before .before .before .if1 .left) _ _ in
-    rw (sym (arm .before .before .uvarint .ensures) ∙ arm .n .given .1) (said .0, c .before .before .put-word .ensures ∙ said .1)
+    let said = read (s .args .number .now) (if1 .left) _ _ in
+    rw (sym (uvarint .ensures) ∙ arm .n .given .1) (said .0, c .before .before .put-word .ensures ∙ said .1)
 
 returns-3 : tie.Need-returns-3
 returns-3 c =
     let s = c .before .before .before .before .before .before in
-    rw (sym (c .before .before .uvarint .ensures) ∙ c .enum-told .given .1) (refused (s .args .number .now) (c .before .before .before .if1 .left) (c .enum-told .given .0 .0) (c .enum-told .given .0 .1 .0))
+    rw (sym (c .before .before .uvarint .ensures) ∙ c .enum-told .given .1)
+    (refused (s .args .number .now) (c .before .before .before .if1 .left) (c .enum-told .given .0 .0) (c .enum-told .given .0 .1 .0))
 
 pub rlc2-uvarint-spec : {M : Type 1} → statement M
 rlc2-uvarint-spec =

@@ -18,7 +18,8 @@ use Rattle.host_leaves.proofs.rlc2_read_all.Tie as tie
 -- `count` numbers are read, and the next stands at `at`
 abbrev ToRead : (bytes before t : List ℕ) (at count : ℕ) → Type 0
 ToRead bytes before t at count =
-    Left before (put before 0 (numbersOf (length before) bytes 0)) (length (numbersOf (length before) bytes 0)) t count (numbersOf (length before - count) bytes at)
+    Left before (put before 0 (numbersOf (length before) bytes 0)) (length (numbersOf (length before) bytes 0)) t count
+    (numbersOf (length before - count) bytes at)
 
 abbrev Done : (bytes before t : List ℕ) (count : ℕ) → Type 0
 Done bytes before t count = (count ≡ length (numbersOf (length before) bytes 0)) × (t ≡ put before 0 (numbersOf (length before) bytes 0))
@@ -47,16 +48,20 @@ abbrev μ-loop : tie.MeasureT-loop
 μ-loop bytes numbers₀ at₀ count₀ numbers at count = length numbers₀ - count
 
 loop-holds : tie.Need-loop-holds Inv-loop μ-loop
-loop-holds c = begin (c .before .before .args .bytes .now) (c .before .before .args .numbers .now)
+loop-holds c =
+    let args = c .before .before .args in
+    begin (args .bytes .now) (args .numbers .now)
 
 returns : tie.Need-returns Inv-loop μ-loop
-returns c = refused _ _ _ _ _ (c .before .before .before .before .loop .inv) _ _ (sym (c .before .before .uvarint .ensures) ∙ c .enum-told .given .1)
-
-loop-less : tie.Need-loop-less Inv-loop μ-loop
-loop-less c = search needs
+returns c =
+    let loop = c .before .before .before .before .loop in
+    refused _ _ _ _ _ (loop .inv) _ _ (sym (c .before .before .uvarint .ensures) ∙ c .enum-told .given .1)
 
 loop-again : tie.Need-loop-again Inv-loop μ-loop
-loop-again c = more _ _ _ _ _ (c .before .before .before .before .before .loop .inv) _ _ (sym (c .before .before .before .uvarint .ensures) ∙ c .before .n .given .1) (c .before .before .before .before .loop-test .taken)
+loop-again c =
+    let at-loop-test = c .before .before .before .before in
+    let loop = at-loop-test .before .loop in
+    more _ _ _ _ _ (loop .inv) _ _ (sym (c .before .before .before .uvarint .ensures) ∙ c .before .n .given .1) (at-loop-test .loop-test .taken)
 
 returns-2 : tie.Need-returns-2 Inv-loop μ-loop
 returns-2 c = full _ _ _ _ _ (c .before .loop .inv) (c .loop-test .left)
@@ -76,7 +81,7 @@ rlc2-read-all-spec =
     (λ c. search needs)
     returns
     (λ c. search needs)
-    loop-less
+    (λ c. search needs)
     loop-again
     (λ c. search needs)
     returns-2)

@@ -6,12 +6,16 @@ use Rattle.host_leaves.proofs.rlc2_uvarint_at.Tie as tie
 
 returns : tie.Need-returns
 returns c =
-    let read = sym (c .before .before .before .before .before .before .before .before .uvarint .ensures) ∙ c .before .before .before .before .before .before .n .given .1 in
+    let at-n = c .before .before .before .before .before .before in
+    let uvarint = at-n .before .before .uvarint in
+    let read = sym (uvarint .ensures) ∙ at-n .n .given .1 in
     rw read (refl, c .before .before .put-fields .ensures)
 
 returns-2 : tie.Need-returns-2
 returns-2 c =
-    let read = sym (c .before .before .before .before .before .before .before .before .uvarint .ensures) ∙ c .before .before .before .before .before .before .number .given .1 in
+    let at-number = c .before .before .before .before .before .before in
+    let uvarint = at-number .before .before .uvarint in
+    let read = sym (uvarint .ensures) ∙ at-number .number .given .1 in
     rw read (refl, c .before .before .put-fields2 .ensures)
 
 pub rlc2-uvarint-at-spec : {M : Type 1} → statement M

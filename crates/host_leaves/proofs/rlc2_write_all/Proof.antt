@@ -48,16 +48,26 @@ abbrev μ-loop : tie.MeasureT-loop
 μ-loop numbers out₀ at₀ i₀ out at i = length numbers - i
 
 loop-holds : tie.Need-loop-holds Inv-loop μ-loop
-loop-holds c = (omega arith, begin (c .before .before .args .numbers .now) (c .before .before .args .out .now))
+loop-holds c =
+    let args = c .before .before .args in
+    (omega arith, begin (args .numbers .now) (args .out .now))
 
 returns : tie.Need-returns Inv-loop μ-loop
-returns c = full _ _ _ _ _ (c .before .before .before .before .loop .inv .1) (c .before .before .before .loop-test .taken) (ltb-true _ _ (sym (c .before .too-wide .ensures) ∙ c .if1 .taken))
+returns c =
+    let loop = c .before .before .before .before .loop in
+    full _ _ _ _ _ (loop .inv .1) (c .before .before .before .loop-test .taken) (ltb-true _ _ (sym (c .before .too-wide .ensures) ∙ c .if1 .taken))
 
 -- the number to write, and that there is room for it
 number : tie.Else1 Inv-loop μ-loop → ℕ
-number c = getD (c .before .before .before .before .before .before .before .args .numbers .now) (c .before .before .before .before .loop .i) 0
+number c =
+    let at-loop = c .before .before .before .before in
+    let args = at-loop .before .before .before .args in
+    getD (args .numbers .now) (at-loop .loop .i) 0
 
-fits : (c : tie.Else1 Inv-loop μ-loop) → c .before .before .before .before .loop .at + length (uleb128 (number c)) ≤ length (c .before .before .before .before .loop .out)
+fits :
+    (c : tie.Else1 Inv-loop μ-loop) →
+    let loop = c .before .before .before .before .loop in
+    loop .at + length (uleb128 (number c)) ≤ length (loop .out)
 unfolding number
 fits c =
     let l = c .before .before .before .before .loop in
@@ -72,8 +82,10 @@ loop-again : tie.Need-loop-again Inv-loop μ-loop
 unfolding number
 loop-again c =
     let else = c .before .before .before .before in
+    let loop-test = else .before .before .before .loop-test in
+    let loop = else .before .before .before .before .loop in
     let w = c .before .before .write-uvarint .ensures in
-    (omega arith, more _ _ _ _ _ (else .before .before .before .before .loop .inv .1) _ _ (else .before .before .before .loop-test .taken) (fits else) (w .0) (w .1))
+    (omega arith, more _ _ _ _ _ (loop .inv .1) _ _ (loop-test .taken) (fits else) (w .0) (w .1))
 
 returns-2 : tie.Need-returns-2 Inv-loop μ-loop
 returns-2 c = end _ _ _ _ _ (c .before .loop .inv .1) (c .loop-test .left)

@@ -18,21 +18,27 @@ module _ (out : List ℕ) (at n : ℕ) where
   no-room : length out < at + length (uleb128 n) → (0 ≡ placeAfter (length out) at n) × (out ≡ putIfRoom out at (uleb128 n))
   no-room h = (simp (lt-leb (at + length (uleb128 n)) (length out) h), sym (put-no-room out at (uleb128 n) h))
 
-  room : at + length (uleb128 n) ≤ length out → (at + length (uleb128 n) ≡ placeAfter (length out) at n) × (put out at (uleb128 n) ≡ putIfRoom out at (uleb128 n))
+  room :
+      at + length (uleb128 n) ≤ length out → (at + length (uleb128 n) ≡ placeAfter (length out) at n) × (put out at (uleb128 n) ≡ putIfRoom out at (uleb128 n))
   room h = (simp (le-leb (at + length (uleb128 n)) (length out) h), sym (put-room out at (uleb128 n) h))
 
 returns : tie.Need-returns
-returns c = let s = c .before .before in no-room (s .args .out .now) (s .args .at) (s .args .n) (omega arith)
+returns c =
+    let s = c .before .before in
+    no-room (s .args .out .now) (s .args .at) (s .args .n) (omega arith)
 
 returns-2 : tie.Need-returns-2
 returns-2 c =
-    let s = c .before .before .before .before in
-    let out = s .args .out .now in
-    let wide : length out - s .args .at < length (uleb128 (s .args .n)) = ltb-true _ _ (sym (c .before .too-wide .ensures) ∙ c .if2 .taken) in
-    no-room out (s .args .at) (s .args .n) (omega arith)
+    let args = c .before .before .before .before .args in
+    let out = args .out .now in
+    let wide : length out - args .at < length (uleb128 (args .n)) = ltb-true _ _ (sym (c .before .too-wide .ensures) ∙ c .if2 .taken) in
+    no-room out (args .at) (args .n) (omega arith)
 
 -- there is room
-fits : (c : tie.Else2) → c .before .before .before .before .args .at + length (uleb128 (c .before .before .before .before .args .n)) ≤ length (c .before .before .before .before .args .out .now)
+fits :
+    (c : tie.Else2) →
+    let args = c .before .before .before .before .args in
+    args .at + length (uleb128 (args .n)) ≤ length (args .out .now)
 fits c =
     let s = c .before .before .before .before in
     let narrow : length (uleb128 (s .args .n)) ≤ length (s .args .out .now) - s .args .at = ltb-false _ _ (sym (c .before .too-wide .ensures) ∙ c .if2 .left) in
@@ -43,8 +49,9 @@ write-uvarint-requires c κs = fits (c .before)
 
 returns-3 : tie.Need-returns-3
 returns-3 c =
-    let s = c .before .before .before .before .before .before .before .before in
-    let r = room (s .args .out .now) (s .args .at) (s .args .n) (fits (c .before .before .before .before)) in
+    let else-2 = c .before .before .before .before in
+    let s = else-2 .before .before .before .before in
+    let r = room (s .args .out .now) (s .args .at) (s .args .n) (fits else-2) in
     let w = c .before .before .write-uvarint .ensures in
     (w .0 ∙ r .0, w .1 ∙ r .1)
 

@@ -5,7 +5,9 @@ use Rattle.host_tables.proofs.rlc2_deserialize.Statement.{statement}
 use Rattle.host_tables.proofs.rlc2_deserialize.Tie as tie
 
 returns : tie.Need-returns
-returns c = host-read (c .before .before .before .before .before .before .before .before .before .before .before .before .deserialize-payload .ensures) (c .before .before .put-read .ensures)
+returns c =
+    let deserialize-payload = c .before .before .before .before .before .before .before .before .before .before .before .before .deserialize-payload in
+    host-read (deserialize-payload .ensures) (c .before .before .put-read .ensures)
 
 pub rlc2-deserialize-spec : {M : Type 1} → statement M
 rlc2-deserialize-spec =

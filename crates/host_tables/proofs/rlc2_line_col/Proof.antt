@@ -7,12 +7,14 @@ use Rattle.host_tables.proofs.rlc2_line_col.Tie as tie
 returns : tie.Need-returns
 returns c =
     let arm = c .before .before .before .before .before .before in
-    rw (sym (arm .before .before .line-col .ensures) ∙ arm .line .given .1) (refl, c .before .before .put-fields .ensures)
+    let line-col = arm .before .before .line-col in
+    rw (sym (line-col .ensures) ∙ arm .line .given .1) (refl, c .before .before .put-fields .ensures)
 
 returns-2 : tie.Need-returns-2
 returns-2 c =
     let arm = c .before .before .before .before .before .before in
-    rw (sym (arm .before .before .line-col .ensures) ∙ arm .number .given .1) (refl, c .before .before .put-fields2 .ensures)
+    let line-col = arm .before .before .line-col in
+    rw (sym (line-col .ensures) ∙ arm .number .given .1) (refl, c .before .before .put-fields2 .ensures)
 
 pub rlc2-line-col-spec : {M : Type 1} → statement M
 rlc2-line-col-spec =

@@ -5,16 +5,37 @@ use Rattle.house.proofs.is_writing.Statement.{statement}
 use Rattle.house.proofs.is_writing.Tie as tie
 
 first-unnamed-requires : tie.Need-first-unnamed-requires
-first-unnamed-requires c κs = sound-distinct (tables (c .before .before .before .before .before .args .payload .now) (c .before .before .before .before .before .args .rows .now) (c .before .before .before .before .before .args .spans .now) (c .before .before .before .before .before .args .starts .now) (c .before .before .before .before .before .args .flag) (c .before .before .before .before .before .args .name-o) (c .before .before .before .before .before .args .name-n)) (c .before .before .before .before .before .pre .1 .0) (c .before .before .before .before .before .args .pool .now) (c .before .before .before .before .before .pre .1 .1)
+first-unnamed-requires c κs =
+    let start = c .before .before .before .before .before in
+    let args = start .args in
+    sound-distinct (tables (args .payload .now) (args .rows .now) (args .spans .now) (args .starts .now) (args .flag) (args .name-o) (args .name-n))
+    (start .pre .1 .0) (args .pool .now) (start .pre .1 .1) (start .pre .0)
 
 returns : tie.Need-returns
-returns c = not-named (tables (c .before .before .before .before .before .before .before .args .payload .now) (c .before .before .before .before .before .before .before .args .rows .now) (c .before .before .before .before .before .before .before .args .spans .now) (c .before .before .before .before .before .before .before .args .starts .now) (c .before .before .before .before .before .before .before .args .flag) (c .before .before .before .before .before .before .before .args .name-o) (c .before .before .before .before .before .before .before .args .name-n)) (c .before .before .before .before .before .before .before .pre .1 .0) (c .before .before .before .before .before .before .before .args .pool .now) (c .before .before .before .before .before .before .before .pre .1 .1) (c .before .first-unnamed .result) (c .before .before .before .before .before .before .before .args .payload .now) (c .before .first-unnamed .ensures) (c .if1 .taken)
+returns c =
+    let start = c .before .before .before .before .before .before .before in
+    let args = start .args in
+    not-named (tables (args .payload .now) (args .rows .now) (args .spans .now) (args .starts .now) (args .flag) (args .name-o) (args .name-n))
+    (start .pre .1 .0) (args .pool .now) (start .pre .1 .1) (start .pre .0) (c .before .first-unnamed .result) (args .payload .now)
+    (c .before .first-unnamed .ensures) (c .if1 .taken)
 
 agrees-requires : tie.Need-agrees-requires
-agrees-requires c κs = (c .before .before .before .before .before .before .before .pre .0, can-write (tables (c .before .before .before .before .before .before .before .args .payload .now) (c .before .before .before .before .before .before .before .args .rows .now) (c .before .before .before .before .before .before .before .args .spans .now) (c .before .before .before .before .before .before .before .args .starts .now) (c .before .before .before .before .before .before .before .args .flag) (c .before .before .before .before .before .before .before .args .name-o) (c .before .before .before .before .before .before .before .args .name-n)) (c .before .before .before .before .before .before .before .pre .1 .0) (c .before .before .before .before .before .before .before .args .pool .now) (c .before .before .before .before .before .before .before .pre .1 .1))
+agrees-requires c κs =
+    let start = c .before .before .before .before .before .before .before in
+    let args = start .args in (
+      start .pre .0,
+      can-write (tables (args .payload .now) (args .rows .now) (args .spans .now) (args .starts .now) (args .flag) (args .name-o) (args .name-n))
+          (start .pre .1 .0) (args .pool .now) (start .pre .1 .1) (start .pre .0),
+    )
 
 returns-2 : tie.Need-returns-2
-returns-2 c = compared (tables (c .before .before .before .before .before .before .before .before .args .payload .now) (c .before .before .before .before .before .before .before .before .args .rows .now) (c .before .before .before .before .before .before .before .before .args .spans .now) (c .before .before .before .before .before .before .before .before .args .starts .now) (c .before .before .before .before .before .before .before .before .args .flag) (c .before .before .before .before .before .before .before .before .args .name-o) (c .before .before .before .before .before .before .before .before .args .name-n)) (c .before .before .before .before .before .before .before .before .pre .1 .0) (c .before .before .before .before .before .before .before .before .args .pool .now) (c .before .before .before .before .before .before .before .before .pre .1 .1) (c .before .before .first-unnamed .result) (c .before .before .before .before .before .before .before .before .args .payload .now) (c .before .before .first-unnamed .ensures) (c .before .if1 .left) (c .agrees .ensures)
+returns-2 c =
+    let first-unnamed = c .before .before .first-unnamed in
+    let start = c .before .before .before .before .before .before .before .before in
+    let args = start .args in
+    compared (tables (args .payload .now) (args .rows .now) (args .spans .now) (args .starts .now) (args .flag) (args .name-o) (args .name-n))
+    (start .pre .1 .0) (args .pool .now) (start .pre .1 .1) (start .pre .0) (first-unnamed .result) (args .payload .now) (first-unnamed .ensures)
+    (c .before .if1 .left) (c .agrees .ensures)
 
 pub is-writing-spec : {M : Type 1} → statement M
 is-writing-spec = tie.close (tie.spec first-unnamed-requires returns agrees-requires returns-2)

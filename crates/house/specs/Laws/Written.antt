@@ -38,7 +38,8 @@ use Rattle.payload.specs.Writing.{gathered, poolOf}
 use Rattle.payload.specs.declared.Counts.{Counts}
 use Rattle.payload.specs.declared.Read.the-variants as read
 use Rattle.pool_index.specs.Laws.Distinct.{interned-distinct}
-use Rattle.pool_index.specs.Strings.{bytesAt, distinct, poolStrings}
+use Rattle.pool_index.specs.Strings.{bytesAt, distinct}
+use Rattle.pool_check.specs.Plain.{plainStrings}
 use Rattle.gather.specs.Gather.{nameParts, rowsParts}
 use Rattle.gather_link.specs.Laws.Gathered.{strings-found}
 use Rattle.gather_link.specs.Laws.Parts.{bytesOf}
@@ -68,19 +69,33 @@ items-spans (code b ss ∷ is) h = omega (arith, length-append ss (itemsSpans is
 trees-spans : (ts : Trees Part) → allItems itemRead (forgetTrees ts) ≡ true → length (spanTable ts) ≡ spanCount (forgetTrees ts)
 unfolding allItems forgetTrees spanTable spanCount
 trees-spans nil h = refl
-trees-spans (node t is ks ts) h = omega (arith, length-append (itemsSpans is) (spanTable ks ++ spanTable ts), length-append (spanTable ks) (spanTable ts),
-    items-spans is (and-left _ _ h), trees-spans ks (and-left _ _ (and-right _ _ h)), trees-spans ts (and-right _ _ (and-right _ _ h)))
+trees-spans (node t is ks ts) h = omega (
+  arith,
+  length-append (itemsSpans is) (spanTable ks ++ spanTable ts),
+  length-append (spanTable ks) (spanTable ts),
+  items-spans is (and-left _ _ h),
+  trees-spans ks (and-left _ _ (and-right _ _ h)),
+  trees-spans ts (and-right _ _ (and-right _ _ h)),
+)
 
-strings-read : (p : List ℕ) (xs : List Part) → TextsIn p xs → poolStrings p (partsWords xs) ≡ bytesOf xs
-unfolding poolStrings partsWords partWords bytesAt TextsIn
+strings-read : (p : List ℕ) (xs : List Part) → TextsIn p xs → plainStrings p (partsWords xs) ≡ bytesOf xs
+unfolding plainStrings partsWords partWords bytesAt TextsIn
 strings-read p [] h = refl
 strings-read p (x ∷ xs) h = ap₂ (λ (b : List ℕ) (l : List (List ℕ)). b ∷ l) (h .0 .text-stands .its-bytes) (strings-read p xs (h .1))
 
 ---- what an accepted read left
 
 abbrev countsOf : Payload → State → Counts
-countsOf u s = record { consumed = s .place; rows = s .rows; spans = s .spans; starts = length (lineStarts (u .script .line)); strings = length (u .pool); flag = lineFlag (u .script .line);
-    «name_o» = lineName (u .script .line) .offset; «name_n» = length (lineName (u .script .line) .bytes) }
+countsOf u s = record {
+  consumed = s .place;
+  rows = s .rows;
+  spans = s .spans;
+  starts = length (lineStarts (u .script .line));
+  strings = length (u .pool);
+  flag = lineFlag (u .script .line);
+  «name_o» = lineName (u .script .line) .offset;
+  «name_n» = length (lineName (u .script .line) .bytes);
+}
 
 accepted-ok : (n : Counts) (x : Result Payload) → read.Accepted n ≡ readAnswer x → (u : Payload) × (s : State) × (x ≡ ok u s) × (n ≡ countsOf u s)
 unfolding readAnswer
@@ -225,7 +240,8 @@ module _ {names p rows spans starts pool : List ℕ} {n : Counts} (w : WasRead n
         outer-is-chunk = w .has .outer-tag;
         obeys = w .has .obeys;
         items-sound = rw (← single-bytes (u .outer)) (small-trees (single (u .outer)) (rw (single-bytes (u .outer)) (w .has .items)) small);
-        line-sound = w .has .line } in
+        line-sound = w .has .line;
+      } in
       let g = holds-sound (tablesOf p u) u (read-holds caps p (isListed names) bytes (w .u) (w .s) (w .payload-read)) sound in
       (g .0, ap scriptOf (w .tables-are) ∙ g .1)
 
@@ -243,13 +259,13 @@ module _ {names p rows spans starts pool : List ℕ} {n : Counts} (w : WasRead n
   pool-rising = pool-rises caps (isListed names) (start p) (w .u) (w .s) (w .payload-read)
 
   -- the strings of the pool table are those that were read
-  table-strings : poolStrings p (take (2 * n .strings) pool) ≡ bytesOf (w .u .pool)
-  table-strings = ap (poolStrings p) (w .pool-is) ∙ strings-read p (w .u .pool) (w .has .pool-stands)
+  table-strings : plainStrings p (take (2 * n .strings) pool) ≡ bytesOf (w .u .pool)
+  table-strings = ap (plainStrings p) (w .pool-is) ∙ strings-read p (w .u .pool) (w .has .pool-stands)
 
   once-passed : passes ≡ true → distinct (bytesOf (w .u .pool)) ≡ true
   once-passed e = rw (read-strings caps (small-capacities _ _ _ _) (isListed names) p (w .u) (w .s) (w .payload-read) (writing-read e)) (unfold poolOf in (interned-distinct _ [] (unfold distinct in refl)))
 
-  pub not-once : false ≡ distinct (poolStrings p (take (2 * n .strings) pool)) → false ≡ passes
+  pub not-once : false ≡ distinct (plainStrings p (take (2 * n .strings) pool)) → false ≡ passes
   not-once f = refutes (λ e. false≢true (f ∙ ap distinct table-strings ∙ once-passed e))
 
   module _ (a : allPositions (take (2 * n .spans) spans) ≡ true) where
@@ -267,7 +283,7 @@ module _ {names p rows spans starts pool : List ℕ} {n : Counts} (w : WasRead n
     not-met m ne = refutes (λ e. ne (met-is m ∙ interned-order (w .u .pool) pool-rising (once-passed e) (gathered (w .u .script)) pool-entries (pool-of-passed e) ∙ sym (w .strings)))
 
     -- strings that differ and are first used in the pool's order: the pool table is the one that gathering gives
-    pub table-gathered : {r : ℕ} → Met (take (2 * n .strings) pool) 0 found r → r ≡ n .strings → distinct (poolStrings p (take (2 * n .strings) pool)) ≡ true → take (2 * n .strings) pool ≡ poolWords (scriptOf T)
+    pub table-gathered : {r : ℕ} → Met (take (2 * n .strings) pool) 0 found r → r ≡ n .strings → distinct (plainStrings p (take (2 * n .strings) pool)) ≡ true → take (2 * n .strings) pool ≡ poolWords (scriptOf T)
     unfolding poolWords
     table-gathered m f d =
         let g = sound-tables a in

@@ -261,13 +261,17 @@ module _ (pool : List Part) (rising : Rising 0 pool) (once : distinct (bytesOf p
     where
       is : {A : Type 0} (m : Part → A) → m y ≡ m (getD pool (f .index) noPart)
       is m = ap m (f .is-entry)
+
       from : (j : ℕ) → meet pool k (getD pool (f .index) noPart) ≡ j → meetAll pool j xs ≡ length pool
       from j q = ap (λ (i : ℕ). meetAll pool i xs) (sym q ∙ sym (is (meet pool k))) ∙ e
+
       old : f .index < k → internedParts (take k pool) (y ∷ xs) ≡ pool
       old l = is (λ z. internedParts (take k pool) (z ∷ xs)) ∙ interned-old k (f .index) u (f .below) l xs ∙ rest k u (from k (meet-old k (f .index) u (f .below) l))
+
       next : f .index ≡ k → internedParts (take k pool) (y ∷ xs) ≡ pool
       next l = is (λ z. internedParts (take k pool) (z ∷ xs)) ∙ interned-new k (f .index) u (f .below) (omega arith) xs ∙ ap (λ (v : List Part). internedParts v xs) (taken-next k (f .index) u (f .below) l)
           ∙ rest (suc k) (omega (arith, f .below)) (from (suc k) (meet-next k (f .index) u (f .below) l))
+
       late : k < f .index → internedParts (take k pool) (y ∷ xs) ≡ pool
       late l = let q = from (suc (length pool)) (meet-late k (f .index) u (f .below) l) in let z = meet-past pool (suc (length pool)) (omega arith) xs in absurd (omega arith)
 
@@ -282,13 +286,17 @@ module _ (pool : List Part) (rising : Rising 0 pool) (once : distinct (bytesOf p
     where
       is : {A : Type 0} (m : Part → A) → m y ≡ m (getD pool (f .index) noPart)
       is m = ap m (f .is-entry)
+
       whole : internedParts (take k pool) (getD pool (f .index) noPart ∷ xs) ≡ pool
       whole = sym (is (λ z. internedParts (take k pool) (z ∷ xs))) ∙ e
+
       old : f .index < k → meetAll pool (meet pool k y) xs ≡ length pool
       old l = ap (λ (j : ℕ). meetAll pool j xs) (is (meet pool k) ∙ meet-old k (f .index) u (f .below) l) ∙ rest k u (sym (interned-old k (f .index) u (f .below) l xs) ∙ whole)
+
       next : f .index ≡ k → meetAll pool (meet pool k y) xs ≡ length pool
       next l = ap (λ (j : ℕ). meetAll pool j xs) (is (meet pool k) ∙ meet-next k (f .index) u (f .below) l)
           ∙ rest (suc k) (omega (arith, f .below)) (ap (λ (v : List Part). internedParts v xs) (sym (taken-next k (f .index) u (f .below) l)) ∙ sym (interned-new k (f .index) u (f .below) (omega arith) xs) ∙ whole)
+
       late : k < f .index → meetAll pool (meet pool k y) xs ≡ length pool
       late l = absurd (not-late k (f .index) u (f .below) l xs (sym (interned-new k (f .index) u (f .below) (omega arith) xs) ∙ whole))
 

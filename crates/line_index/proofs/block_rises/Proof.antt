@@ -19,37 +19,13 @@ Inv-loop starts i rises₀ end k₀ rises k = (i ≤ k) × (k ≤ end) × (rises
 abbrev μ-loop : tie.MeasureT-loop
 μ-loop starts i rises₀ end k₀ rises k = end - k
 
-add-end : tie.Need-add-end Inv-loop μ-loop
-add-end c = search needs
-
 loop-holds : tie.Need-loop-holds Inv-loop μ-loop
 loop-holds c = (omega arith, omega arith, λ e j a b. absurd (omega arith))
 
-mul-rises : tie.Need-mul-rises Inv-loop μ-loop
-mul-rises c = search needs
-
-shared-slice-read-rises : tie.Need-shared-slice-read-rises Inv-loop μ-loop
-shared-slice-read-rises c = search needs
-
-add-rises : tie.Need-add-rises Inv-loop μ-loop
-add-rises c = search needs
-
-mul-rises-2 : tie.Need-mul-rises-2 Inv-loop μ-loop
-mul-rises-2 c = search needs
-
-shared-slice-read-rises-2 : tie.Need-shared-slice-read-rises-2 Inv-loop μ-loop
-shared-slice-read-rises-2 c = search needs
-
-add-k : tie.Need-add-k Inv-loop μ-loop
-add-k c = search needs
-
-loop-less : tie.Need-loop-less Inv-loop μ-loop
-loop-less c = search needs
-
 loop-again : tie.Need-loop-again Inv-loop μ-loop
 loop-again c =
-    let s : List ℕ = c .before .before .before .before .args .starts .now in
-    let at = c .before .before .before .loop in (
+    let at = c .before .before .before .loop in
+    let s : List ℕ = c .before .before .before .before .args .starts .now in (
       omega arith,
       omega arith,
       λ e j a b. let h : j ≤ at .k = omega arith in
@@ -67,14 +43,14 @@ block-rises-spec =
     (tie.spec
     Inv-loop
     μ-loop
-    add-end
+    (λ c. search needs)
     loop-holds
-    mul-rises
-    shared-slice-read-rises
-    add-rises
-    mul-rises-2
-    shared-slice-read-rises-2
-    add-k
-    loop-less
+    (λ c. search needs)
+    (λ c. search needs)
+    (λ c. search needs)
+    (λ c. search needs)
+    (λ c. search needs)
+    (λ c. search needs)
+    (λ c. search needs)
     loop-again
     returns)

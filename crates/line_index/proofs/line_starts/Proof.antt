@@ -24,65 +24,46 @@ abbrev μ-loop : tie.MeasureT-loop
 returns : tie.Need-returns Inv-loop μ-loop
 returns c = (sym (too-long _ _ (c .if1 .taken)), (refl, omega arith))
 
-room-requires : tie.Need-room-requires Inv-loop μ-loop
-room-requires c κs = search needs
-
 returns-2 : tie.Need-returns-2 Inv-loop μ-loop
 returns-2 c = (sym (no-room _ _ (omega arith) (sym (c .before .room .ensures) ∙ c .if2 .taken)), (refl, omega arith))
 
-slice-write-starts : tie.Need-slice-write-starts Inv-loop μ-loop
-slice-write-starts c = search needs
-
 loop-holds : tie.Need-loop-holds Inv-loop μ-loop
-loop-holds c = (omega arith, omega arith, omega arith, refl, first-start (c .before .before .before .before .before .args .starts .now) _ (omega arith))
-
-shared-slice-read-if3 : tie.Need-shared-slice-read-if3 Inv-loop μ-loop
-shared-slice-read-if3 c = search needs
+loop-holds c =
+    let args = c .before .before .before .before .before .args in
+    (omega arith, omega arith, omega arith, refl, first-start (args .starts .now) _ (omega arith))
 
 -- the table's length at the loop's return
 same-length : tie.Need-same-length Inv-loop μ-loop
 same-length c =
-    c .before .before .before .before .loop .inv .3
-    ∙ length-set (c .before .before .before .before .before .before .before .before .before .before .args .starts .now) 0 0
+    let at-loop = c .before .before .before .before in
+    let args = at-loop .before .before .before .before .before .before .args in
+    at-loop .loop .inv .3
+    ∙ length-set (args .starts .now) 0 0
 
 returns-3 : tie.Need-returns-3 Inv-loop μ-loop
 returns-3 c =
-    let a = c .before .before .before .before .before .before .before .before .before .before .args in
-    let at = c .before .before .before .before .loop in
+    let at-loop = c .before .before .before .before in
+    let at = at-loop .loop in
+    let room = at-loop .before .before .room in
+    let a = at-loop .before .before .before .before .before .before .args in
     let t : List ℕ = a .text .now in
     let s : List ℕ = at .starts in
     let held : length (take (at .n) s) ≡ at .n = length-take-le (at .n) s (omega (arith, length-set (a .starts .now) 0 0)) in
-    let taken = sym (c .before .before .before .before .before .before .room .ensures) ∙ sym (c .if4 .taken) ∙ sym held in (
+    let taken = sym (room .ensures) ∙ sym (c .if4 .taken) ∙ sym held in (
       sym (full t (length (a .starts .now)) (omega arith) (at .i) (take (at .n) s) _ taken
           (at .inv .4 ∙ ap (λ (r : List ℕ). take (at .n) s ++ r) (newline t (at .i) (c .before .before .before .loop-test .taken) (c .before .if3 .taken)))),
       (refl, omega arith),
     )
 
-add-starts : tie.Need-add-starts Inv-loop μ-loop
-add-starts c = search needs
-
-cast-starts : tie.Need-cast-starts Inv-loop μ-loop
-cast-starts c = search needs
-
-mul-starts : tie.Need-mul-starts Inv-loop μ-loop
-mul-starts c = search needs
-
 slice-write-starts-2 : tie.Need-slice-write-starts-2 Inv-loop μ-loop
-slice-write-starts-2 c = omega (arith, length-set (c .before .before .before .before .before .before .before .before .before .before .args .starts .now) 0 0)
-
-add-n : tie.Need-add-n Inv-loop μ-loop
-add-n c = search needs
-
-add-i : tie.Need-add-i Inv-loop μ-loop
-add-i c = search needs
-
-loop-less : tie.Need-loop-less Inv-loop μ-loop
-loop-less c = search needs
+slice-write-starts-2 c =
+    let args = c .before .before .before .before .before .before .before .before .before .before .args in
+    omega (arith, length-set (args .starts .now) 0 0)
 
 loop-again : tie.Need-loop-again Inv-loop μ-loop
 loop-again c =
-    let a = c .before .before .before .before .before .before .before .before .before .args in
     let at = c .before .before .before .loop in
+    let a = c .before .before .before .before .before .before .before .before .before .args in
     let t : List ℕ = a .text .now in
     let n = at .n in
     let i = at .i in
@@ -96,12 +77,14 @@ loop-again c =
     (c .if3 .came)
 
 same-length-2 : tie.Need-same-length-2 Inv-loop μ-loop
-same-length-2 c = c .before .loop .inv .3 ∙ length-set (c .before .before .before .before .before .before .before .args .starts .now) 0 0
+same-length-2 c =
+    let args = c .before .before .before .before .before .before .before .args in
+    c .before .loop .inv .3 ∙ length-set (args .starts .now) 0 0
 
 returns-4 : tie.Need-returns-4 Inv-loop μ-loop
 returns-4 c =
-    let a = c .before .before .before .before .before .before .before .args in
     let at = c .before .loop in
+    let a = c .before .before .before .before .before .before .before .args in
     let t : List ℕ = a .text .now in
     let n = at .n in
     let s : List ℕ = at .starts in
@@ -118,20 +101,20 @@ line-starts-spec =
     Inv-loop
     μ-loop
     returns
-    room-requires
+    (λ c κs. search needs)
     returns-2
-    slice-write-starts
+    (λ c. search needs)
     loop-holds
-    shared-slice-read-if3
+    (λ c. search needs)
     same-length
     returns-3
-    add-starts
-    cast-starts
-    mul-starts
+    (λ c. search needs)
+    (λ c. search needs)
+    (λ c. search needs)
     slice-write-starts-2
-    add-n
-    add-i
-    loop-less
+    (λ c. search needs)
+    (λ c. search needs)
+    (λ c. search needs)
     loop-again
     same-length-2
     returns-4)

@@ -18,49 +18,25 @@ abbrev μ-loop : tie.MeasureT-loop
 returns : tie.Need-returns Inv-loop μ-loop
 returns c = sym (rise-none _ (c .if1 .taken))
 
-rising-blocks-requires : tie.Need-rising-blocks-requires Inv-loop μ-loop
-rising-blocks-requires c κs = search needs
-
-add-i : tie.Need-add-i Inv-loop μ-loop
-add-i c = search needs
-
-mul-last : tie.Need-mul-last Inv-loop μ-loop
-mul-last c = search needs
-
-shared-slice-read-last : tie.Need-shared-slice-read-last Inv-loop μ-loop
-shared-slice-read-last c = search needs
-
 loop-holds : tie.Need-loop-holds Inv-loop μ-loop
 loop-holds c = (omega arith, omega arith, rise-run _ _ (c .before .rising-blocks .ensures .0) (c .before .rising-blocks .ensures .1))
 
-mul-x : tie.Need-mul-x Inv-loop μ-loop
-mul-x c = search needs
-
-shared-slice-read-x : tie.Need-shared-slice-read-x Inv-loop μ-loop
-shared-slice-read-x c = search needs
-
 returns-2 : tie.Need-returns-2 Inv-loop μ-loop
 returns-2 c =
-    let s = c .before .before .before .before .before .before .before .before .args .starts .now in
     let at = c .before .before .before .loop in
+    let s = c .before .before .before .before .before .before .before .before .args .starts .now in
     omega (arith, rise-stop s (at .i) (c .before .before .loop-test .taken) (at .last) (c .if2 .taken))
-
-add-i-2 : tie.Need-add-i-2 Inv-loop μ-loop
-add-i-2 c = search needs
-
-loop-less : tie.Need-loop-less Inv-loop μ-loop
-loop-less c = search needs
 
 loop-again : tie.Need-loop-again Inv-loop μ-loop
 loop-again c =
-    let s = c .before .before .before .before .before .before .before .before .args .starts .now in
     let at = c .before .before .before .loop in
+    let s = c .before .before .before .before .before .before .before .before .args .starts .now in
     (omega arith, omega arith, omega (arith, rise-more s (at .i) (c .before .before .loop-test .taken) (at .last) (c .if2 .left)))
 
 returns-3 : tie.Need-returns-3 Inv-loop μ-loop
 returns-3 c =
-    let s = c .before .before .before .before .before .before .args .starts .now in
     let at = c .before .loop in
+    let s = c .before .before .before .before .before .before .args .starts .now in
     omega (arith, rise-end s (at .i) (c .loop-test .left) (at .last))
 
 pub rising-prefix-spec : {M : Type 1} → statement M
@@ -70,15 +46,15 @@ rising-prefix-spec =
     Inv-loop
     μ-loop
     returns
-    rising-blocks-requires
-    add-i
-    mul-last
-    shared-slice-read-last
+    (λ c κs. search needs)
+    (λ c. search needs)
+    (λ c. search needs)
+    (λ c. search needs)
     loop-holds
-    mul-x
-    shared-slice-read-x
+    (λ c. search needs)
+    (λ c. search needs)
     returns-2
-    add-i-2
-    loop-less
+    (λ c. search needs)
+    (λ c. search needs)
     loop-again
     returns-3)

@@ -8,7 +8,13 @@ use Rattle.listing.proofs.put_answer.Tie as tie
 
 returns : tie.Need-returns
 unfolding answerLine
-returns c = (puts-then (c .before .before .before .before .before .before .before .before .before .before .put-column .ensures .0) (puts-then (c .before .before .before .before .before .before .put-column2 .ensures .0) (c .before .before .put-line-end .ensures)), omega (arith, c .before .before .put-line-end .ensures .end-is))
+returns c =
+    let put-line-end = c .before .before .put-line-end in
+    let at-put-column2 = c .before .before .before .before .before .before in
+    let put-column = at-put-column2 .before .before .before .before .put-column in (
+      puts-then (put-column .ensures .0) (puts-then (at-put-column2 .put-column2 .ensures .0) (put-line-end .ensures)),
+      omega (arith, put-line-end .ensures .end-is),
+    )
 
 pub put-answer-spec : {M : Type 1} → statement M
 put-answer-spec =

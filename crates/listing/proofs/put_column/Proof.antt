@@ -19,28 +19,32 @@ few {k} n h f = fewest-at-most 20 n k (omega arith) (omega arith) f
 
 copy-part-requires : tie.Need-copy-part-requires
 copy-part-requires c κs =
-    let spaces = c .before .before .before .before .before .before .spaces-before in
-    let d = c .before .before .before .before .before .before .before .decimal in
-    let s = c .before .before .before .before .before .before .before .before .before .before in
-    omega (arith, d .ensures .0 .1, few (s .args .n) (s .fits .n) (d .ensures .1 .0), c .before .before .before .before .put-spaces .kept .0, spaces .ensures, s .pre)
+    let at-put-spaces = c .before .before .before .before in
+    let spaces = at-put-spaces .before .before .spaces-before in
+    let d = at-put-spaces .before .before .before .decimal in
+    let s = at-put-spaces .before .before .before .before .before .before in
+    omega (arith, d .ensures .0 .1, few (s .args .n) (s .fits .n) (d .ensures .1 .0), at-put-spaces .put-spaces .kept .0, spaces .ensures, s .pre)
 
 add-result : tie.Need-add-result
 add-result c =
-    let spaces = c .before .before .before .before .before .before .before .before .before .spaces-before in
-    let d = c .before .before .before .before .before .before .before .before .before .before .decimal in
-    let s = c .before .before .before .before .before .before .before .before .before .before .before .before .before in
+    let at-spaces-before = c .before .before .before .before .before .before .before .before .before in
+    let spaces = at-spaces-before .spaces-before in
+    let d = at-spaces-before .before .decimal in
+    let s = at-spaces-before .before .before .before .before in
     omega (arith, few (s .args .n) (s .fits .n) (d .ensures .1 .0), spaces .ensures, s .pre, s .good .0)
 
 returns : tie.Need-returns
 returns c =
-    let spaces = c .before .before .before .before .before .before .before .before .before .spaces-before in
-    let d = c .before .before .before .before .before .before .before .before .before .before .decimal in
-    let s = c .before .before .before .before .before .before .before .before .before .before .before .before .before in
+    let at-put-spaces = c .before .before .before .before .before .before .before in
+    let spaces = at-put-spaces .before .before .spaces-before in
+    let d = at-put-spaces .before .before .before .decimal in
+    let s = at-put-spaces .before .before .before .before .before .before in
+    let args = s .args in
     let digits = take (d .result) (d .last .1 .0) in
-    let e : digits ≡ decimal (s .args .n) = d .ensures .1 .1 ∙ fewest-decimal (d .result) (s .args .n) (d .ensures .1 .0) in
-    let k = few (s .args .n) (s .fits .n) (d .ensures .1 .0) in
-    let p = puts-column (s .args .at) (spaces .result) (s .args .width) (s .args .n) (d .result) digits e (sym (d .ensures .0 .1)) (spaces .ensures)
-    (c .before .before .before .before .before .before .before .put-spaces .ensures) (c .before .before .copy-part .ensures) in
+    let e : digits ≡ decimal (args .n) = d .ensures .1 .1 ∙ fewest-decimal (d .result) (args .n) (d .ensures .1 .0) in
+    let k = few (args .n) (s .fits .n) (d .ensures .1 .0) in
+    let p = puts-column (args .at) (spaces .result) (args .width) (args .n) (d .result) digits e (sym (d .ensures .0 .1)) (spaces .ensures)
+    (at-put-spaces .put-spaces .ensures) (c .before .before .copy-part .ensures) in
     (p, omega (arith, spaces .ensures, s .pre))
 
 pub put-column-spec : {M : Type 1} → statement M

@@ -15,6 +15,7 @@ put-line-end-requires c κs =
     let x = y .before .before .before .before .before in
     let t = x .before .before .before .before .before in
     let n = t .before .before .before .before .before in
+    let pre = n .before .before .before .before .pre in
     omega (
       arith,
       w .put-column6 .ensures .1,
@@ -29,7 +30,7 @@ put-line-end-requires c κs =
       x .put-column3 .kept .0,
       t .put-column2 .kept .0,
       n .put-column .kept .0,
-      n .before .before .before .before .pre,
+      pre,
     )
 
 returns : tie.Need-returns
@@ -42,7 +43,8 @@ returns c =
     let x = y .before .before .before .before .before in
     let t = x .before .before .before .before .before in
     let n = t .before .before .before .before .before in
-    let p = puts-then (n .put-column .ensures .0) (puts-then (t .put-column2 .ensures .0) (puts-then (x .put-column3 .ensures .0) (puts-then (y .put-column4 .ensures .0)
+    let p = puts-then (n .put-column .ensures .0)
+    (puts-then (t .put-column2 .ensures .0) (puts-then (x .put-column3 .ensures .0) (puts-then (y .put-column4 .ensures .0)
     (puts-then (z .put-column5 .ensures .0) (puts-then (w .put-column6 .ensures .0) (l .put-line-end .ensures)))))) in (
       p,
       omega (

@@ -24,14 +24,16 @@ loop-holds c = (omega arith, omega arith, refl, puts-none _ _)
 loop-again : tie.Need-loop-again Inv-loop μ-loop
 unfolding rowLines
 loop-again c =
-    let inv = c .before .before .before .before .before .loop .inv in
     let row = c .before .before .put-row in
-    (omega arith, omega (arith, row .ensures .1), row .kept .0 ∙ inv .2, rw (add-one (c .before .before .before .before .before .loop .i)) (puts-then (inv .3) (row .ensures .0)))
+    let loop = c .before .before .before .before .before .loop in
+    let inv = loop .inv in
+    (omega arith, omega (arith, row .ensures .1), row .kept .0 ∙ inv .2, rw (add-one (loop .i)) (puts-then (inv .3) (row .ensures .0)))
 
 returns : tie.Need-returns Inv-loop μ-loop
 returns c =
+    let args = c .before .before .before .before .args in
     let inv = c .before .loop .inv in
-    let e : c .before .loop .i ≡ c .before .before .before .before .args .used = omega arith in
+    let e : c .before .loop .i ≡ args .used = omega arith in
     (rw (← e) (inv .3), omega arith)
 
 pub put-rows-spec : {M : Type 1} → statement M

@@ -21,17 +21,19 @@ loop-holds c = (omega arith, refl, sym (put-none _ _))
 
 loop-again : tie.Need-loop-again Inv-loop μ-loop
 loop-again c =
-    let d = c .before .before .args .out .now in
-    let at = c .before .before .args .at in
+    let args = c .before .before .args in
+    let d = args .out .now in
+    let at = args .at in
     let i = c .before .loop .i in
     let inv = c .before .loop .inv in
     (omega arith, simp length-set (inv .1), ap (λ (l : List ℕ). set l (at + i) 32) (inv .2) ∙ fill-one d at i 32)
 
 returns : tie.Need-returns Inv-loop μ-loop
 returns c =
-    let d = c .before .before .args .out .now in
-    let at = c .before .before .args .at in
-    let e : c .before .loop .i ≡ c .before .before .args .count = omega arith in
+    let args = c .before .before .args in
+    let d = args .out .now in
+    let at = args .at in
+    let e : c .before .loop .i ≡ args .count = omega arith in
     c .before .loop .inv .2 ∙ ap (λ (n : ℕ). put d at (replicate n 32)) e
 
 pub put-spaces-spec : {M : Type 1} → statement M

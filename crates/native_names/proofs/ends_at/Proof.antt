@@ -14,25 +14,35 @@ returns c = record { yes = λ e. absurd (false≢true e); no = λ e w. c .if1 .t
 
 returns-2 : tie.Need-returns-2
 returns-2 c =
-    let i = c .before .before .before .before .before .before .args .i in
-    let n = c .before .before .before .before .before .before .args .n in
+    let args = c .before .before .before .before .before .before .args in
+    let i = args .i in
+    let n = args .n in
     let y : i - n - 1 ≡ i - (n + 1) = omega arith in
-    record { yes = λ e. absurd (false≢true e); no = λ e w. c .before .begins-at .ensures .no (not-true _ (c .if2 .taken)) (λ h. rw y (w .begins (omega arith))) }
+    record {
+      yes = λ e. absurd (false≢true e);
+      no = λ e w. c .before .begins-at .ensures .no (not-true _ (c .if2 .taken)) (λ h. rw y (w .begins (omega arith)));
+    }
 
 returns-3 : tie.Need-returns-3
 returns-3 c =
-    record { yes = λ e. absurd (false≢true e); no = λ e w. false≢true (sym (not-true _ (c .if3 .taken)) ∙ c .before .equal-parts .ensures ∙ rw (w .bytes) (same-refl _)) }
+    record {
+      yes = λ e. absurd (false≢true e);
+      no = λ e w. false≢true (sym (not-true _ (c .if3 .taken)) ∙ c .before .equal-parts .ensures ∙ rw (w .bytes) (same-refl _));
+    }
 
 returns-4 : tie.Need-returns-4
 returns-4 c =
-    let i = c .before .before .before .before .before .before .before .before .before .args .i in
-    let n = c .before .before .before .before .before .before .before .before .before .args .n in
+    let at-begins-at = c .before .before .before .before in
+    let if1 = at-begins-at .before .if1 in
+    let start = at-begins-at .before .before .before .before .before in
+    let i = start .args .i in
+    let n = start .args .n in
     let y : i - (n + 1) ≡ i - n - 1 = omega arith in
     record {
       yes = λ e. record {
-        long = c .before .before .before .before .before .before .before .before .before .pre .1;
-        ends = c .before .before .before .before .before .if1 .left;
-        begins = λ h. rw y (c .before .before .before .before .begins-at .ensures .yes (not-false _ (c .before .before .before .if2 .left)) (omega arith));
+        long = start .pre .1;
+        ends = if1 .left;
+        begins = λ h. rw y (at-begins-at .begins-at .ensures .yes (not-false _ (c .before .before .before .if2 .left)) (omega arith));
         bytes = sym (same-eq _ _ (sym (c .before .before .equal-parts .ensures) ∙ not-false _ (c .before .if3 .left)));
         clear = c .is-clear .ensures .yes e;
       };

@@ -18,8 +18,9 @@ abbrev μ-loop : tie.MeasureT-loop
 
 returns : tie.Need-returns Inv-loop μ-loop
 returns c =
+    let loop = c .before .before .before .loop in
     record {
-      yes = λ e. (c .before .before .before .loop .i, c .before .before .before .loop .inv .0, c .before .before .loop-test .taken, c .before .ends-at .ensures .yes (c .if1 .taken));
+      yes = λ e. (loop .i, loop .inv .0, c .before .before .loop-test .taken, c .before .ends-at .ensures .yes (c .if1 .taken));
       no = λ e. absurd (false≢true (sym e));
     }
 

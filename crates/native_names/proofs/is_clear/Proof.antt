@@ -18,9 +18,10 @@ abbrev μ-loop : tie.MeasureT-loop
 
 returns : tie.Need-returns Inv-loop μ-loop
 returns c =
+    let loop = c .before .before .before .loop in
     record {
       yes = λ e. absurd (false≢true e);
-      no = λ e clear. clear (c .before .before .before .loop .k) (c .before .before .before .loop .inv .0) (c .before .before .loop-test .taken) (c .if1 .taken);
+      no = λ e clear. clear (loop .k) (loop .inv .0) (c .before .before .loop-test .taken) (c .if1 .taken);
     }
 
 loop-again : tie.Need-loop-again Inv-loop μ-loop

@@ -16,15 +16,20 @@ abbrev μ-loop : tie.MeasureT-loop
 μ-loop names bytes o n offset size last i₀ i = length names - i
 
 returns : tie.Need-returns Inv-loop μ-loop
-returns c = sym (listed-none _ _ (c .before .before .before .args .n) (length-part _ _ _ (c .before .before .before .pre)) (λ k h w. omega (arith, w .long)))
+returns c =
+    let start = c .before .before .before in
+    sym (listed-none _ _ (start .args .n) (length-part _ _ _ (start .pre)) (λ k h w. omega (arith, w .long)))
 
 returns-2 : tie.Need-returns-2 Inv-loop μ-loop
-returns-2 c = sym (listed-if _ _ _ (c .before .before .before .before .before .args .n) (omega arith) (c .before .ends-at .ensures .yes (c .if2 .taken)))
+returns-2 c =
+    let args = c .before .before .before .before .before .args in
+    sym (listed-if _ _ _ (args .n) (omega arith) (c .before .ends-at .ensures .yes (c .if2 .taken)))
 
 loop-holds : tie.Need-loop-holds Inv-loop μ-loop
 loop-holds c =
+    let args = c .before .before .before .before .before .before .args in
     let none = c .before .before .ends-at .ensures .no (c .before .if2 .left) in
-    (omega arith, omega arith, λ k h w. let e : k ≡ c .before .before .before .before .before .before .args .n = omega (arith, w .long) in none (rw e at w))
+    (omega arith, omega arith, λ k h w. let e : k ≡ args .n = omega (arith, w .long) in none (rw e at w))
 
 returns-3 : tie.Need-returns-3 Inv-loop μ-loop
 returns-3 c =
@@ -36,7 +41,9 @@ loop-again c =
     (omega arith, omega arith, range-join _ _ _ (c .before .before .before .loop .inv .2) (c .before .ends-in-block .ensures .no (c .if3 .left)))
 
 returns-4 : tie.Need-returns-4 Inv-loop μ-loop
-returns-4 c = listed-is _ _ _ _ _ (length-part _ _ _ (c .before .before .before .before .before .before .before .before .before .pre)) (c .before .before .loop .inv .2) (c .ends-between .ensures)
+returns-4 c =
+    let pre = c .before .before .before .before .before .before .before .before .before .pre in
+    listed-is _ _ _ _ _ (length-part _ _ _ pre) (c .before .before .loop .inv .2) (c .ends-between .ensures)
 
 pub is-listed-spec : {M : Type 1} → statement M
 is-listed-spec =

@@ -17,11 +17,14 @@ abbrev μ-loop : tie.MeasureT-loop
 
 loop-again : tie.Need-loop-again Inv-loop μ-loop
 loop-again c =
-    let names = c .before .before .before .before .before .args .names .now in
-    let i = c .before .before .before .before .before .args .i in
-    let n = c .before .before .before .before .before .args .n in
-    let last = c .before .before .before .before .before .args .last in
-    (omega arith, omega arith, block-more names n last i (c .before .before .before .before .loop .k) (c .before .before .before .before .loop .any) (c .before .before .before .before .loop .inv .2))
+    let at-loop = c .before .before .before .before in
+    let loop = at-loop .loop in
+    let args = at-loop .before .args in
+    let names = args .names .now in
+    let i = args .i in
+    let n = args .n in
+    let last = args .last in
+    (omega arith, omega arith, block-more names n last i (loop .k) (loop .any) (loop .inv .2))
 
 returns : tie.Need-returns Inv-loop μ-loop
 returns c = let k : c .before .loop .k ≡ c .before .before .args .i + 32 = omega arith in rw k at (c .before .loop .inv .2)

@@ -37,7 +37,7 @@ module _ (c : Capacities) (small : Small c) (names p : List ℕ) (bytes : Bytes 
       to : isOk (house c names p) ≡ true → (T : Tables) × HouseProgram c names p T
       to e = let x = house-reads c small names p bytes e in
           let w = x .3 in
-          (tablesOf p (x .0 .script), record { script = x .0 .script; end = x .4; sound = x .5; in-list = w .in-list; held = w .fits; named = is-named _ (w .named); its-writing = w .its-writing; short = w .within })
+          (tablesOf p (x .0 .script), record { script = x .0 .script; end = x .4; sound = x .5; small-store = unfold tablesOf in (w .within); in-list = w .in-list; held = w .fits; named = is-named _ (w .named); its-writing = w .its-writing; short = w .within })
 
   -- then reading is accepted, takes every byte and gives that program, equal in everything
   pub demand-3-back : (T : Tables) → HouseProgram c names p T
@@ -46,11 +46,16 @@ module _ (c : Capacities) (small : Small c) (names p : List ℕ) (bytes : Bytes 
   demand-3-back T h =
       let w = is-writing T h in
       let r = read-back c small (isListed names) p (forgetScript (h .script)) w in
-      let holds = read-holds c p (isListed names) bytes (r .0) (r .1) (r .2) in
-      (r .0, r .1, reading-short c names p (h .short) ∙ r .2, r .3, r .4,
-          view-holds T (h .script) (sound-holds T (h .script) (h .end) (h .sound)) (w .sound)
-          ∙ ap viewScript (sym (r .5))
-          ∙ sym (view-holds (tablesOf p (r .0 .script)) (r .0 .script) holds (rw (r .5) (w .sound))))
+      let holds = read-holds c p (isListed names) bytes (r .0) (r .1) (r .2) in (
+        r .0,
+        r .1,
+        reading-short c names p (h .short) ∙ r .2,
+        r .3,
+        r .4,
+        view-holds T (h .script) (sound-holds T (h .script) (h .end) (h .sound)) (w .sound)
+            ∙ ap viewScript (sym (r .5))
+            ∙ sym (view-holds (tablesOf p (r .0 .script)) (r .0 .script) holds (rw (r .5) (w .sound))),
+      )
 
 -- two sound programs with one writing are equal, whichever tables they stand in
 pub demand-3-one : (p : List ℕ) (T U : Tables) → Writes T p → Writes U p → Equal T U

@@ -140,10 +140,13 @@ view-tables s n x k h l = go x l
   where
     sizes : length (rowTable (single n)) / rowWidth ≡ size (single n)
     sizes = let e = row-table-width (single n) (rw (single-bytes n) k) in omega (arith, e)
+
     rows-is : viewRows s (length (rowTable (single n)) / rowWidth) (rowTable (single n)) ≡ viewTrees (single (forgetNode n))
     rows-is = rw sizes (view-trees s (single n) (rw (single-bytes n) k) h ∙ ap viewTrees (single-bytes n))
+
     spans-is : spanWords (spanTable (single n)) ≡ spanWords (spansTrees (single (forgetNode n)))
     spans-is = ap spanWords (spans-trees (single n) ∙ ap spansTrees (single-bytes n))
+
     go : (x : Option (LineIndex Part)) → InLine s x → view (tablesOf s (record { outer = n; line = x })) ≡ viewScript (forgetScript (record { outer = n; line = x }))
     go none l = λ i. record { rows = rows-is i; spans = spans-is i; starts = []; flag = 0; name = [] }
     go (some y) l = λ i. record { rows = rows-is i; spans = spans-is i; starts = y .starts; flag = 1; name = l .its-bytes i }

@@ -308,10 +308,15 @@ given-back (node t is ks ts) more h =
     let m = spanCount (forgetTrees (withoutSpans ks)) in
     let a : length (itemsSpans is) ≡ n = length-items-spans is (and-left _ _ h) ∙ sym (span-items-without is) in
     let b : length (spanTable ks) ≡ m = length-span-table ks (and-left _ _ (and-right _ _ h)) ∙ sym (span-count-without ks) in
-    rw (append-assoc (itemsSpans is) (spanTable ks ++ spanTable ts) more, append-assoc (spanTable ks) (spanTable ts) more, ← (drop-drop m n (itemsSpans is ++ (spanTable ks ++ (spanTable ts ++ more)))),
-        drop-at (itemsSpans is) (spanTable ks ++ (spanTable ts ++ more)) n a, drop-at (spanTable ks) (spanTable ts ++ more) m b)
+    rw (
+      append-assoc (itemsSpans is) (spanTable ks ++ spanTable ts) more,
+      append-assoc (spanTable ks) (spanTable ts) more,
+      ← (drop-drop m n (itemsSpans is ++ (spanTable ks ++ (spanTable ts ++ more)))),
+      drop-at (itemsSpans is) (spanTable ks ++ (spanTable ts ++ more)) n a,
+      drop-at (spanTable ks) (spanTable ts ++ more) m b,
+    )
     (λ i. node t (given-back-items is (spanTable ks ++ (spanTable ts ++ more)) (and-left _ _ h) i)
-        (given-back ks (spanTable ts ++ more) (and-left _ _ (and-right _ _ h)) i) (given-back ts more (and-right _ _ (and-right _ _ h)) i))
+    (given-back ks (spanTable ts ++ more) (and-left _ _ (and-right _ _ h)) i) (given-back ts more (and-right _ _ (and-right _ _ h)) i))
 
 ---- rows that obey the rules of rows, given small spans, are sound
 

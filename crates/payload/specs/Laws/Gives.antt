@@ -115,10 +115,12 @@ module _ {c : Capacities} where
 
   pub gives-body : (bs : List ℕ) → Gives c (body (length bs)) bs 0 0 (λ l. l .bytes ≡ bs)
   unfolding body must andThen
-  gives-body bs = record { run = λ s t e hr hs.
-      let long : length bs ≤ length (s .rest) = rw e (simp length-append (omega arith)) in
-      let part : Part = record { offset = s .place; bytes = take (length bs) (s .rest) } in
-      (part, rw (le-leb (length bs) (length (s .rest)) long) (ap (ok part) (sym (after-bytes (length bs) s))), ap (take (length bs)) e ∙ take-append-seam bs t) }
+  gives-body bs = record {
+    run = λ s t e hr hs.
+        let long : length bs ≤ length (s .rest) = rw e (simp length-append (omega arith)) in
+        let part : Part = record { offset = s .place; bytes = take (length bs) (s .rest) } in
+        (part, rw (le-leb (length bs) (length (s .rest)) long) (ap (ok part) (sym (after-bytes (length bs) s))), ap (take (length bs)) e ∙ take-append-seam bs t);
+  }
 
   -- the steps that take no bytes
   pub gives-at : {A : Type 0} {f : ℕ → Reader A} {bs : List ℕ} {k m : ℕ} {P : A → Type 0} → ((p : ℕ) → Gives c (f p) bs k m P) → Gives c (here >>= f) bs k m P

@@ -85,16 +85,21 @@ module _ (c : Capacities) (small : Small c) (listed : List ℕ → Bool) (p : Li
     where
       N : ℕ
       N = length (poolOf s)
+
       more : List ℕ
       more = writeStrings (poolOf s) ++ (concat (writeTrees (poolOf s) (single (s .outer))) ++ writeLineIndex (poolOf s) (s .line))
+
       begins : p ≡ uleb128 N ++ more
       begins = unfold writing in (sym w ∙ append-assoc (uleb128 N) (writeStrings (poolOf s)) _)
+
       small-N : N < 2 ^ 64
       small-N = let a : length (uleb128 N ++ more) ≡ length (uleb128 N) + (length (writeStrings (poolOf s)) + length (concat (writeTrees (poolOf s) (single (s .outer))) ++ writeLineIndex (poolOf s) (s .line))) = simp length-append in
           let b = ap length begins in let f = few-strings (poolOf s) in omega arith
+
       counted : (n : ℕ) (s₀ : State) → varint (start p) ≡ ok n s₀ → n ≡ N
       counted n s₀ q = let g = gives-varint {c = c} N small-N .run (start p) more begins (omega arith) (omega arith) in
           let same-n : n ≡ g .0 = cc (g .1) in same-n ∙ g .2
+
       go : (ls : List Part) (s₁ : State) → readPool (c .maxStrings) (start p) ≡ ok ls s₁ → N ≤ c .maxStrings
       go ls s₁ x = let y = invert (varint (start p)) _ ls s₁ x in
           let k = counted (y .0) (y .1) (y .2) in
@@ -206,13 +211,25 @@ module _ (c : Capacities) (small : Small c) (names p : List ℕ) (bytes : Bytes 
           let y = ok-true (scriptOf (tablesOf p (u .script))) (and-left _ _ (and-right _ _ t)) in
           let a = sound-again p (u .script) (y .0) (y .1) (r .outer-tag) (r .obeys) (r .items) (r .line) (y .2) in
           let w = same-eq _ _ (and-right _ _ (and-right _ _ (and-right _ _ t))) in
-          let g = holds-sound (tablesOf p (u .script)) (u .script) h a in
-          (u, s, q, record { sound = a; named = named-is _ (and-left _ _ (and-right _ _ (and-right _ _ t))); in-list = r .in-list;
+          let g = holds-sound (tablesOf p (u .script)) (u .script) h a in (
+            u,
+            s,
+            q,
+            record {
+              sound = a;
+              named = named-is _ (and-left _ _ (and-right _ _ (and-right _ _ t)));
+              in-list = r .in-list;
               fits = record { fit-rows = rows-fit′ u (r .rows-fit); fit-spans = r .spans-fit; fit-strings = pool-fits c small (isListed names) p _ u s w (k .0) (k .1); fit-starts = starts-fit′ u (r .starts-fit) };
-              its-writing = w; within = k .0 }, g .0, g .1)
+              its-writing = w;
+              within = k .0;
+            },
+            g .0,
+            g .1,
+          )
         where
           rows-fit′ : (u : Payload) → size (single (u .script .outer)) ≤ c .maxRows → size (single (forgetScript (u .script) .outer)) ≤ c .maxRows
           rows-fit′ u h = rw (← single-bytes (u .script .outer), size-forget (single (u .script .outer))) h
+
           starts-fit′ : (u : Payload) → startCount (forgetLine (u .script .line)) ≤ c .maxStarts → startCount (forgetScript (u .script) .line) ≤ c .maxStarts
           starts-fit′ u h = h
 
@@ -273,9 +290,14 @@ few-pooled s = let a : length (writing s) ≡ length (uleb128 (length (poolOf s)
 
 by-writing : (s : Script (List ℕ)) (p : List ℕ) → SoundScript s → Named s → Bounded s → writing s ≡ p → IsWriting most (λ b. true) p s
 unfolding Listed
-by-writing s p a b d e = record { sound = a; named = b; in-list = any-trees (single (s .outer));
-    fits = record { fit-rows = d .bound-rows; fit-spans = d .bound-spans; fit-strings = omega (arith, few-pooled s, d .bound-writing); fit-starts = d .bound-starts };
-    its-writing = e; within = let q = ap length e in omega (arith, d .bound-writing) }
+by-writing s p a b d e = record {
+  sound = a;
+  named = b;
+  in-list = any-trees (single (s .outer));
+  fits = record { fit-rows = d .bound-rows; fit-spans = d .bound-spans; fit-strings = omega (arith, few-pooled s, d .bound-writing); fit-starts = d .bound-starts };
+  its-writing = e;
+  within = let q = ap length e in omega (arith, d .bound-writing);
+}
 
 pub one-script : (s s′ : Script (List ℕ)) → SoundScript s → Named s → Bounded s → SoundScript s′ → Named s′ → Bounded s′ → writing s ≡ writing s′ → s ≡ s′
 one-script s s′ a b d a′ b′ d′ e =

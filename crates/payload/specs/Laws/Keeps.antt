@@ -57,8 +57,10 @@ module _ (c : Capacities) (p : List ℕ) where
   Plain P a k m = Nothing k m × P a
 
   pub keeps-so : {A : Type 0} {r : Reader A} {P : A → ℕ → ℕ → Type 0} (Q : A → ℕ → ℕ → Type 0) → ((a : A) (k m : ℕ) → P a k m → Q a k m) → Keeps r P → Keeps r Q
-  keeps-so Q f g = record { run = λ s a s′ i e. let w = g .run s a s′ i e in
-      record { k = w .k; m = w .m; inv = w .inv; by-rows = w .by-rows; by-spans = w .by-spans; holds = f a (w .k) (w .m) (w .holds) } }
+  keeps-so Q f g = record {
+    run = λ s a s′ i e. let w = g .run s a s′ i e in
+        record { k = w .k; m = w .m; inv = w .inv; by-rows = w .by-rows; by-spans = w .by-spans; holds = f a (w .k) (w .m) (w .holds) };
+  }
 
   pub plain-so : {A : Type 0} {r : Reader A} {P Q : A → Type 0} → ((a : A) → P a → Q a) → Keeps r (Plain P) → Keeps r (Plain Q)
   plain-so {Q} f g = keeps-so (Plain Q) (λ a k m z. (z .0, f a (z .1))) g
@@ -140,6 +142,7 @@ module _ (c : Capacities) (p : List ℕ) where
     where
       first : (s : State) → Inv s → (x : ℕ) (xs : List ℕ) → s .rest ≡ x ∷ xs → Bytes p → x < 256
       first s i x xs h small = let z : getD (drop (s .place) p) 0 0 ≡ x = ap (λ (l : List ℕ). getD l 0 0) (sym (i .inv-rest) ∙ h) in omega (arith, getD-drop (s .place) p 0 0, small (s .place + 0))
+
       go : (s : State) (b : ℕ) (s′ : State) → Inv s → (r : List ℕ) → s .rest ≡ r → firstByte r s ≡ ok b s′ → Step s s′ (Plain (λ a. Bytes p → a < 256) b)
       go s b s′ i [] h e = not-ok 1 (s .place) b s′ e
       go s b s′ i (x ∷ xs) h e = step-advanced (Plain (λ a. Bytes p → a < 256)) s 1 x b s′ i (rw h (omega arith)) (nothing, first s i x xs h) e
@@ -163,16 +166,28 @@ module _ (c : Capacities) (p : List ℕ) where
   keeps-row = record { run = λ s b s′ i e. go s b s′ i (tested (ltb (s .rows) (c .maxRows)) 22 (s .place) s _ b s′ e) }
     where
       go : (s : State) (b : Unit {0}) (s′ : State) → Inv s → (ltb (s .rows) (c .maxRows) ≡ true) × (_≡_ {A = Result (Unit {0})} (ok tt (withRow s)) (ok b s′)) → Step s s′ (λ k m. (k ≡ 1) × (m ≡ 0))
-      go s b s′ i e = step-cast (λ a k m. (k ≡ 1) × (m ≡ 0)) s tt b _ s′ (e .1) (record { k = 1; m = 0;
-          inv = record { inv-rest = i .inv-rest; inv-place = i .inv-place; inv-rows = omega (arith, ltb-true (s .rows) (c .maxRows) (e .0)); inv-spans = i .inv-spans }; by-rows = omega arith; by-spans = omega arith; holds = (refl, refl) })
+      go s b s′ i e = step-cast (λ a k m. (k ≡ 1) × (m ≡ 0)) s tt b _ s′ (e .1) (record {
+        k = 1;
+        m = 0;
+        inv = record { inv-rest = i .inv-rest; inv-place = i .inv-place; inv-rows = omega (arith, ltb-true (s .rows) (c .maxRows) (e .0)); inv-spans = i .inv-spans };
+        by-rows = omega arith;
+        by-spans = omega arith;
+        holds = (refl, refl);
+      })
 
   pub keeps-spans : (n : ℕ) → Keeps (newSpans (c .maxSpans) n) (λ a k m. (k ≡ 0) × (m ≡ n))
   unfolding newSpans
   keeps-spans n = record { run = λ s b s′ i e. go s b s′ i (tested (leb (s .spans + n) (c .maxSpans)) 23 (s .place) s _ b s′ e) }
     where
       go : (s : State) (b : Unit {0}) (s′ : State) → Inv s → (leb (s .spans + n) (c .maxSpans) ≡ true) × (_≡_ {A = Result (Unit {0})} (ok tt (withSpans n s)) (ok b s′)) → Step s s′ (λ k m. (k ≡ 0) × (m ≡ n))
-      go s b s′ i e = step-cast (λ a k m. (k ≡ 0) × (m ≡ n)) s tt b _ s′ (e .1) (record { k = 0; m = n;
-          inv = record { inv-rest = i .inv-rest; inv-place = i .inv-place; inv-rows = i .inv-rows; inv-spans = leb-true _ _ (e .0) }; by-rows = omega arith; by-spans = omega arith; holds = (refl, refl) })
+      go s b s′ i e = step-cast (λ a k m. (k ≡ 0) × (m ≡ n)) s tt b _ s′ (e .1) (record {
+        k = 0;
+        m = n;
+        inv = record { inv-rest = i .inv-rest; inv-place = i .inv-place; inv-rows = i .inv-rows; inv-spans = leb-true _ _ (e .0) };
+        by-rows = omega arith;
+        by-spans = omega arith;
+        holds = (refl, refl);
+      })
 
   abbrev BodyIs : ℕ → Part → Type 0
   BodyIs n l = InStore p l × (length (l .bytes) ≡ n)

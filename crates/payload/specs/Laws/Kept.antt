@@ -140,7 +140,11 @@ module _ (c : Capacities) (p : List ℕ) where
   kept-code = keeps-free c p (keeps-varint c p) (λ n w. keeps-free c p (keeps-body c p n) (λ l z. keeps-then c p (keeps-spans c p n) (λ u k m y.
       keeps-free c p (keeps-varint c p) (λ j w. keeps-free c p (kept-runs j (pos 0) (pos 0)) (λ rs w. keeps-at c p (λ q. keeps-check c p _ 7 q _ (λ e.
       keeps-pure c p (record { part = l; spans = expand rs }) (λ b k′ m′. CodeIs b (k + k′) (m + m′)) (record {
-          code-rows = omega (arith, y .0); code-spans = omega (arith, y .1, z .1); code-stands = z .0; code-each = length-expand rs ∙ eqb-true (total rs) n e ∙ sym (z .1) }))))))))
+        code-rows = omega (arith, y .0);
+        code-spans = omega (arith, y .1, z .1);
+        code-stands = z .0;
+        code-each = length-expand rs ∙ eqb-true (total rs) n e ∙ sym (z .1);
+      }))))))))
 
   module _ (listed : List ℕ → Bool) where
     record ItemIs (kind : ItemKind) (i : Item Part) (k m : ℕ) : Type 0 where
@@ -186,18 +190,27 @@ module _ (c : Capacities) (p : List ℕ) where
     put-are : {d : ℕ} {one test : List Root → Bool} (test′ : List Root → Bool) (u : Node Part) (ts : Trees Part) (k m k′ m′ k″ m″ : ℕ)
         → TreesAre d one (single u) k m → TreesAre d test ts k′ m′ → test′ (roots (forgetTrees (cons u ts))) ≡ true → k″ ≡ k + k′ → m″ ≡ m + m′ → TreesAre d test′ (cons u ts) k″ m″
     unfolding cons single size forgetTrees spanCount InTrees allItems obeyRules
-    put-are test′ u ts k m k′ m′ k″ m″ a b q r s = record { trees-rows = omega (arith, a .trees-rows, b .trees-rows); trees-spans = omega (arith, a .trees-spans, b .trees-spans);
-        trees-in = (a .trees-in .0, a .trees-in .1, b .trees-in);
-        trees-held = and-both (and-left _ _ (a .trees-held)) (and-both (and-left _ _ (and-right _ _ (a .trees-held))) (b .trees-held));
-        trees-obey = and-both (and-left _ _ (a .trees-obey)) (and-both (and-left _ _ (and-right _ _ (a .trees-obey))) (b .trees-obey)); trees-test = q }
+    put-are test′ u ts k m k′ m′ k″ m″ a b q r s = record {
+      trees-rows = omega (arith, a .trees-rows, b .trees-rows);
+      trees-spans = omega (arith, a .trees-spans, b .trees-spans);
+      trees-in = (a .trees-in .0, a .trees-in .1, b .trees-in);
+      trees-held = and-both (and-left _ _ (a .trees-held)) (and-both (and-left _ _ (and-right _ _ (a .trees-held))) (b .trees-held));
+      trees-obey = and-both (and-left _ _ (a .trees-obey)) (and-both (and-left _ _ (and-right _ _ (a .trees-obey))) (b .trees-obey));
+      trees-test = q;
+    }
 
     -- a row over trees
     row-are : {h : ℕ → Bool} {d d′ t : ℕ} {sh : Shape} {kinds : List ItemKind} {test : List Root → Bool} → Row h d d′ t sh → (is : List (Item Part)) (ts : Trees Part) (k m k′ m′ k″ m″ : ℕ)
         → ItemsAre kinds is k m → TreesAre d′ test ts k′ m′ → rowRule sh (forgetItems is) (roots (forgetTrees ts)) ≡ true → k″ ≡ suc k′ → m″ ≡ m + m′ → NodeIs h d (nodeOf t is ts) k″ m″
     unfolding nodeOf single size forgetTrees spanCount InTrees allItems obeyRules allTags roots
-    row-are w is ts k m k′ m′ k″ m″ a b q r s = record { trees-rows = omega (arith, b .trees-rows); trees-spans = omega (arith, a .items-spans, b .trees-spans);
-        trees-in = (a .items-in, b .trees-in, tt); trees-held = and-both (a .items-held) (and-both (b .trees-held) refl);
-        trees-obey = and-both (rw (w .row-shape) q) (and-both (w .row-deep (forgetTrees ts) (b .trees-obey)) refl); trees-test = and-both (w .row-tag) refl }
+    row-are w is ts k m k′ m′ k″ m″ a b q r s = record {
+      trees-rows = omega (arith, b .trees-rows);
+      trees-spans = omega (arith, a .items-spans, b .trees-spans);
+      trees-in = (a .items-in, b .trees-in, tt);
+      trees-held = and-both (a .items-held) (and-both (b .trees-held) refl);
+      trees-obey = and-both (rw (w .row-shape) q) (and-both (w .row-deep (forgetTrees ts) (b .trees-obey)) refl);
+      trees-test = and-both (w .row-tag) refl;
+    }
 
     module _ (small : Bytes p) (pool : List Part) (texts : TextsIn p pool) where
       abbrev e : Context
@@ -224,8 +237,13 @@ module _ (c : Capacities) (p : List ℕ) where
       unfolding readItems forgetItems spanItems sameKinds InItems allOf
       kept-items [] = keeps-pure c p [] (ItemsAre []) (record { items-rows = refl; items-spans = refl; items-kinds = refl; items-in = tt; items-held = refl })
       kept-items (x ∷ xs) = keeps-bind c p (kept-item x) (λ i k m z. keeps-bind c p (kept-items xs) (λ is k′ m′ y. keeps-pure c p (i ∷ is) (λ is k″ m″. ItemsAre (x ∷ xs) is (k + (k′ + k″)) (m + (m′ + m″)))
-          (record { items-rows = omega (arith, z .item-rows, y .items-rows); items-spans = omega (arith, z .item-spans, y .items-spans); items-kinds = and-both (z .item-kind) (y .items-kinds);
-              items-in = (z .item-in, y .items-in); items-held = and-both (z .item-held) (y .items-held) })))
+          (record {
+            items-rows = omega (arith, z .item-rows, y .items-rows);
+            items-spans = omega (arith, z .item-spans, y .items-spans);
+            items-kinds = and-both (z .item-kind) (y .items-kinds);
+            items-in = (z .item-in, y .items-in);
+            items-held = and-both (z .item-held) (y .items-held);
+          })))
 
       kept-many : (h : ℕ → Bool) (d n : ℕ) (r : Reader (Node Part)) → K r (NodeIs h d) → K (readMany n r) (TreesAre d (allTags h))
       unfolding readMany
@@ -242,15 +260,15 @@ module _ (c : Capacities) (p : List ℕ) where
       kept-keys d zero seen r R = keeps-pure c p nil _ (nil-are d (λ rs. allValues rs and distinctKeys seen rs) (unfold allTags distinctKeys _and_ in refl))
       kept-keys d (suc n) seen r R = keeps-at c p (λ q. keeps-bind c p R (λ u k m z. keeps-then c p (kept-key q seen u) (λ o i j x. keeps-bind c p (kept-keys d n (nodeKey u ∷ seen) r R) (λ ts k′ m′ y.
           keeps-pure c p (cons u ts) (λ b k″ m″. TreesAre d (λ rs. allValues rs and distinctKeys seen rs) b (k + (i + (k′ + k″))) (m + (j + (m′ + m″))))
-              (put-are _ u ts k m k′ m′ _ _ z y (put-keys seen u ts (node-tag isValueTag d u k m z) (x .1) (y .trees-test)) (omega (arith, x .0 .no-rows)) (omega (arith, x .0 .no-spans)))))))
+          (put-are _ u ts k m k′ m′ _ _ z y (put-keys seen u ts (node-tag isValueTag d u k m z) (x .1) (y .trees-test)) (omega (arith, x .0 .no-rows)) (omega (arith, x .0 .no-spans)))))))
 
       kept-pairs : (d n : ℕ) (seen : List (List ℕ)) (r : Reader (Node Part)) → K r (NodeIs isValueTag d) → K (readPairs n seen r) (TreesAre d (λ rs. allValues rs and distinctPairs seen rs))
       unfolding readPairs
       kept-pairs d zero seen r R = keeps-pure c p nil _ (nil-are d (λ rs. allValues rs and distinctPairs seen rs) (unfold allTags distinctPairs _and_ in refl))
       kept-pairs d (suc n) seen r R = keeps-at c p (λ q. keeps-bind c p R (λ u k m z. keeps-bind c p R (λ v a b w. keeps-then c p (kept-key q seen u) (λ o i j x. keeps-bind c p (kept-pairs d n (nodeKey u ∷ seen) r R) (λ ts k′ m′ y.
           keeps-pure c p (cons u (cons v ts)) (λ g k″ m″. TreesAre d (λ rs. allValues rs and distinctPairs seen rs) g (k + (a + (i + (k′ + k″)))) (m + (b + (j + (m′ + m″)))))
-              (put-are _ u (cons v ts) k m (a + k′) (b + m′) _ _ z (put-are (λ rs. true) v ts a b k′ m′ _ _ w y refl refl refl)
-                  (put-pairs seen u v ts (node-tag isValueTag d u k m z) (x .1) (node-tag isValueTag d v a b w) (y .trees-test)) (omega (arith, x .0 .no-rows)) (omega (arith, x .0 .no-spans))))))))
+          (put-are _ u (cons v ts) k m (a + k′) (b + m′) _ _ z (put-are (λ rs. true) v ts a b k′ m′ _ _ w y refl refl refl)
+          (put-pairs seen u v ts (node-tag isValueTag d u k m z) (x .1) (node-tag isValueTag d v a b w) (y .trees-test)) (omega (arith, x .0 .no-rows)) (omega (arith, x .0 .no-spans))))))))
 
       kept-one : (h : ℕ → Bool) (d : ℕ) (r : Reader (Node Part)) → K r (NodeIs h d) → K (readOne r) (TreesAre d (λ rs. eqb (length rs) 1 and allTags h rs))
       unfolding readOne cons
@@ -269,25 +287,25 @@ module _ (c : Capacities) (p : List ℕ) where
       unfolding readUntagged rowRule
       kept-untagged {h} {d} {d′} r R t kinds kk w = keeps-then c p (keeps-row c p) (λ u i j x. keeps-bind c p (kept-items kinds) (λ is k m z. keeps-bind c p (kept-kids d′ r R kk) (λ ts k′ m′ y.
           keeps-pure c p (nodeOf t is ts) (λ g k″ m″. NodeIs h d g (i + (k + (k′ + k″))) (j + (m + (m′ + m″))))
-              (row-are w is ts k m k′ m′ _ _ z y (and-both (z .items-kinds) (y .trees-test)) (omega (arith, x .0, z .items-rows)) (omega (arith, x .1))))))
+          (row-are w is ts k m k′ m′ _ _ z y (and-both (z .items-kinds) (y .trees-test)) (omega (arith, x .0, z .items-rows)) (omega (arith, x .1))))))
 
       -- the row itself is counted before its shape is read
       kept-shape : {h : ℕ → Bool} {d d′ : ℕ} (r : Reader (Node Part)) → K r (NodeIs isValueTag d′) → (t : ℕ) (sh : Shape) → Row h d d′ t sh → K (readShape e r t sh) (λ u k m. NodeIs h d u (suc k) m)
       unfolding readShape rowRule
       kept-shape {h} {d} {d′} r R t (withKids kinds kk) w = keeps-bind c p (kept-items kinds) (λ is k m z. keeps-bind c p (kept-kids d′ r R kk) (λ ts k′ m′ y.
           keeps-pure c p (nodeOf t is ts) (λ g k″ m″. NodeIs h d g (suc (k + (k′ + k″))) (m + (m′ + m″)))
-              (row-are w is ts k m k′ m′ _ _ z y (and-both (z .items-kinds) (y .trees-test)) (omega (arith, z .items-rows)) (omega arith))))
+          (row-are w is ts k m k′ m′ _ _ z y (and-both (z .items-kinds) (y .trees-test)) (omega (arith, z .items-rows)) (omega arith))))
       kept-shape {h} {d} {d′} r R t (withChunk kinds) w = keeps-bind c p (kept-items kinds) (λ is k m z. keeps-bind c p (kept-one (isTag 32) d′ _ (kept-untagged r R 32 (ItemKind.code ∷ []) values (chunk-row d′))) (λ ts k′ m′ y.
           keeps-pure c p (nodeOf t is ts) (λ g k″ m″. NodeIs h d g (suc (k + (k′ + k″))) (m + (m′ + m″)))
-              (row-are w is ts k m k′ m′ _ _ z y (and-both (z .items-kinds) (y .trees-test)) (omega (arith, z .items-rows)) (omega arith))))
+          (row-are w is ts k m k′ m′ _ _ z y (and-both (z .items-kinds) (y .trees-test)) (omega (arith, z .items-rows)) (omega arith))))
       kept-shape {h} {d} {d′} r R t (withFields kinds) w = keeps-bind c p (kept-items kinds) (λ is k m z. keeps-bind c p (keeps-varint c p) (λ n i j x.
           keeps-bind c p (kept-many (isTag 33) d′ n _ (kept-untagged r R 33 (ItemKind.string ∷ []) oneValue (field-row d′))) (λ ts k′ m′ y.
           keeps-pure c p (nodeOf t is ts) (λ g k″ m″. NodeIs h d g (suc (k + (i + (k′ + k″)))) (m + (j + (m′ + m″))))
-              (row-are w is ts k m k′ m′ _ _ z y (and-both (z .items-kinds) (y .trees-test)) (omega (arith, z .items-rows, x .0 .no-rows)) (omega (arith, x .0 .no-spans))))))
+          (row-are w is ts k m k′ m′ _ _ z y (and-both (z .items-kinds) (y .trees-test)) (omega (arith, z .items-rows, x .0 .no-rows)) (omega (arith, x .0 .no-spans))))))
       kept-shape {h} {d} {d′} r R t (withTemplate kinds) w = keeps-at c p (λ q. keeps-bind c p R (λ f a b o. keeps-check c p _ 11 q _ (λ is-function. keeps-bind c p (kept-items kinds) (λ is k m z. keeps-bind c p (keeps-varint c p) (λ n i j x.
           keeps-bind c p (kept-many isValueTag d′ n r R) (λ ts k′ m′ y. keeps-pure c p (nodeOf t is (cons f ts)) (λ g k″ m″. NodeIs h d g (suc (a + (k + (i + (k′ + k″))))) (b + (m + (j + (m′ + m″)))))
-              (row-are w is (cons f ts) k m (a + k′) (b + m′) _ _ z (put-are (λ rs. true) f ts a b k′ m′ _ _ o y refl refl refl)
-                  (closure-rule kinds (forgetItems is) f ts (z .items-kinds) is-function (y .trees-test)) (omega (arith, z .items-rows, x .0 .no-rows)) (omega (arith, x .0 .no-spans)))))))))
+          (row-are w is (cons f ts) k m (a + k′) (b + m′) _ _ z (put-are (λ rs. true) f ts a b k′ m′ _ _ o y refl refl refl)
+          (closure-rule kinds (forgetItems is) f ts (z .items-kinds) is-function (y .trees-test)) (omega (arith, z .items-rows, x .0 .no-rows)) (omega (arith, x .0 .no-spans)))))))))
 
       kept-value : (d : ℕ) → K (readValue e d) (NodeIs isValueTag d)
       unfolding readValue

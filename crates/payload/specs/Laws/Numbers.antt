@@ -46,8 +46,10 @@ cut-keeps k u h = ⊎-elim low high (below-or (u % 2 ^ k) (2 ^ (k - 1)))
   where
     low : u % 2 ^ k < 2 ^ (k - 1) → cutSigned k u % 2 ^ k ≡ u % 2 ^ k
     low l = rw (cut-low k u h l) (mod-mod u (2 ^ k))
+
     above : 2 ^ 64 - 2 ^ k ≡ (2 ^ (64 - k) - 1) * 2 ^ k
     above = ap (λ (n : ℕ). 2 ^ n - 2 ^ k) (sym (sub-add-cancel h)) ∙ high-ones (64 - k) k
+
     high : 2 ^ (k - 1) ≤ u % 2 ^ k → cutSigned k u % 2 ^ k ≡ u % 2 ^ k
     high l = rw (cut-high k u h l, above, add-mul-mod-self-right (u % 2 ^ k) (2 ^ (64 - k) - 1) (2 ^ k)) (mod-mod u (2 ^ k))
 
@@ -61,6 +63,7 @@ zigzag-small w = zigzag-range (signedOf 64 w) (⊎-elim low high (below-or (w % 
   where
     low : w % 2 ^ 64 < 2 ^ 63 → mag (signedOf 64 w) < 2 ^ 63
     low h = rw (signed-low 64 w h) h
+
     high : 2 ^ 63 ≤ w % 2 ^ 64 → mag (signedOf 64 w) < 2 ^ 63
     high h = rw (signed-high 64 w h) (omega arith)
 

@@ -81,6 +81,7 @@ interned-in x (y ∷ ys) l e = go (same x y) refl (isIn y l) refl (λ k. interne
     here′ : (t : Bool) → isIn y l ≡ t → isIn y (if_then_else_ (isIn y l) l (l ++ (y ∷ []))) ≡ true
     here′ true q = rw q q
     here′ false q = rw q (isIn-last y l)
+
     go : (t : Bool) → same x y ≡ t → (u : Bool) → isIn y l ≡ u → ((k : List (List ℕ)) → isIn x ys ≡ true → isIn x (interned k ys) ≡ true) → isIn x (interned (if_then_else_ (isIn y l) l (l ++ (y ∷ []))) ys) ≡ true
     go true q u r ih = interned-keeps x ys _ (rw (same-eq x y q) (here′ u r))
     go false q u r ih = ih _ (rw q at e)

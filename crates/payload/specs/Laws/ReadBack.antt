@@ -189,7 +189,6 @@ readable-of listed l (code b ss) h g = h
 -- the reading of what was written
 module _ (c : Capacities) (small : Small c) (listed : List ℕ → Bool) (s : Script (List ℕ)) (sound : SoundScript s) (named : Named s) (in-list : Listed listed s) (fits : Fits c s)
     (short-writing : length (writing s) < 2 ^ 64) where
-
   pool-short : length (writeStrings (poolOf s)) < 2 ^ 64
   unfolding writing
   pool-short = let e : length (writing s) ≡ length (uleb128 (length (poolOf s))) + length (writeStrings (poolOf s)) + (length (concat (writeTrees (poolOf s) (single (s .outer)))) + length (writeLineIndex (poolOf s) (s .line))) = simp length-append in

@@ -118,7 +118,7 @@ module _ (c : Capacities) (p : List ℕ) where
     unfolding readPayload
     kept-payload = keeps-free c p kept-pool (λ pool z. keeps-bind c p (kept-chunk c p listed small pool (z .0)) (λ outer k m y. keeps-free c p (kept-line pool (z .0)) (λ line x.
         keeps-pure c p (record { pool = pool; script = record { outer = outer; line = line } }) (λ u k′ m′. PayloadIs u (k + k′) (m + m′))
-            (record { outer-is = are-as c p listed y (omega arith) (omega arith); line-is = x; pool-is = z }))))
+        (record { outer-is = are-as c p listed y (omega arith) (omega arith); line-is = x; pool-is = z }))))
 
     read-step : (u : Payload) (s : State) → Step c p (start p) s (PayloadIs u) → ReadIs c p listed u s
     unfolding single forgetScript forgetNode forgetTrees Listed

@@ -70,7 +70,6 @@ node-tag f n is ks z = ap (λ (n : Node (List ℕ)). n .tag) z
 
 module _ (e : Context) (l : List (List ℕ)) (pool-is : map (λ (x : Part). x .bytes) (e .pool) ≡ l) (few : length l ≤ 2 ^ 32)
     (rows-fit : e .capacities .maxRows < 2 ^ 64) (spans-fit : e .capacities .maxSpans < 2 ^ 64) where
-
   abbrev c : Capacities
   c = e .capacities
 
@@ -165,7 +164,7 @@ module _ (e : Context) (l : List (List ℕ)) (pool-is : map (λ (x : Part). x .b
       (gives-bind (R t is ks (and-left _ _ q) (first-shaped d t is ks ts s) (first-fine t is ks ts h)) (λ u z.
       gives-then (gives-key p seen u t is ks z (and-left _ _ w) (and-left _ _ (and-right _ _ w)))
       (gives-bind (gives-times-keys d r R (nodeKey u ∷ seen) ts (and-right _ _ q)
-          (rw (key-bytes u t is ks z) at (and-right _ _ (and-right _ _ w))) (rest-shaped d t is ks ts s) (rest-fine t is ks ts h)) (λ us p′.
+      (rw (key-bytes u t is ks z) at (and-right _ _ (and-right _ _ w))) (rest-shaped d t is ks ts s) (rest-fine t is ks ts h)) (λ us p′.
       gives-pure _ (λ us. forgetTrees us ≡ node t is ks ts) (put-bytes u us t is ks ts z p′)))))
       (simp append-nil) (omega arith) (omega arith))
 
@@ -204,7 +203,7 @@ module _ (e : Context) (l : List (List ℕ)) (pool-is : map (λ (x : Part). x .b
       → isKeyTag t ≡ true → not (isIn (keyOf t is) seen) ≡ true
       → ((u : Node Part) → keyOf t is ≡ nodeKey u → Gives c (readPairs n (nodeKey u ∷ seen) r) (concat (writeTrees l ts)) (size ts) (spanCount ts) (λ us. forgetTrees us ≡ ts))
       → Gives c (readPairs (suc n) seen r) (concat (writeTrees l (node t is ks (node t′ is′ ks′ ts)))) (size (node t is ks (node t′ is′ ks′ ts))) (spanCount (node t is ks (node t′ is′ ks′ ts)))
-          (λ us. forgetTrees us ≡ node t is ks (node t′ is′ ks′ ts))
+      (λ us. forgetTrees us ≡ node t is ks (node t′ is′ ks′ ts))
   unfolding readPairs writeTrees concat size spanCount
   gives-pair d n r R seen t is ks t′ is′ ks′ ts q s h q′ s′ h′ w w′ rest =
       gives-at (λ p. gives-as
@@ -222,12 +221,12 @@ module _ (e : Context) (l : List (List ℕ)) (pool-is : map (λ (x : Part). x .b
   gives-times-pairs d r R seen (node t is ks nil) q w s h = unfold distinctPairs roots in (false≢true w)
   gives-times-pairs d r R seen (node t is ks (node t′ is′ ks′ ts)) q w s h =
       subst (λ (n : ℕ). Gives c (readPairs n seen r) (concat (writeTrees l (node t is ks (node t′ is′ ks′ ts)))) (size (node t is ks (node t′ is′ ks′ ts))) (spanCount (node t is ks (node t′ is′ ks′ ts)))
-          (λ us. forgetTrees us ≡ node t is ks (node t′ is′ ks′ ts))) (half-encs t is ks t′ is′ ks′ ts)
+      (λ us. forgetTrees us ≡ node t is ks (node t′ is′ ks′ ts))) (half-encs t is ks t′ is′ ks′ ts)
       (gives-pair d (length (writeTrees l ts) / 2) r R seen t is ks t′ is′ ks′ ts (value₁ t is ks _ q) (first-shaped d t is ks _ s) (first-fine t is ks _ h)
-          (value₁ t′ is′ ks′ _ (value₂ t is ks _ q)) (first-shaped d t′ is′ ks′ ts (rest-shaped d t is ks _ s)) (first-fine t′ is′ ks′ ts (rest-fine t is ks _ h))
-          (pair₁ seen t is ks t′ is′ ks′ ts w) (pair₂ seen t is ks t′ is′ ks′ ts w)
-          (λ u z. gives-times-pairs d r R (nodeKey u ∷ seen) ts (value₂ t′ is′ ks′ _ (value₂ t is ks _ q)) (rw z at (pair₃ seen t is ks t′ is′ ks′ ts w))
-              (rest-shaped d t′ is′ ks′ ts (rest-shaped d t is ks _ s)) (rest-fine t′ is′ ks′ ts (rest-fine t is ks _ h))))
+      (value₁ t′ is′ ks′ _ (value₂ t is ks _ q)) (first-shaped d t′ is′ ks′ ts (rest-shaped d t is ks _ s)) (first-fine t′ is′ ks′ ts (rest-fine t is ks _ h))
+      (pair₁ seen t is ks t′ is′ ks′ ts w) (pair₂ seen t is ks t′ is′ ks′ ts w)
+      (λ u z. gives-times-pairs d r R (nodeKey u ∷ seen) ts (value₂ t′ is′ ks′ _ (value₂ t is ks _ q)) (rw z at (pair₃ seen t is ks t′ is′ ks′ ts w))
+      (rest-shaped d t′ is′ ks′ ts (rest-shaped d t is ks _ s)) (rest-fine t′ is′ ks′ ts (rest-fine t is ks _ h))))
 
   gives-count : (ts : Trees (List ℕ)) → size ts ≤ c .maxRows → Gives c varint (uleb128 (length (writeTrees l ts))) 0 0 (λ n. n ≡ length (writeTrees l ts))
   gives-count ts h = gives-varint (length (writeTrees l ts)) (let q = count-le l ts in omega arith)
@@ -316,6 +315,7 @@ module _ (e : Context) (l : List (List ℕ)) (pool-is : map (λ (x : Part). x .b
     where
       value-7 : (n : ℕ) → eqb n 7 ≡ true → leb n 26 ≡ true
       value-7 n w = let m = eqb-true n 7 w in le-leb n 26 (omega arith)
+
       tag-7 : (f : Node Part) (n : ℕ) (is : List (Item (List ℕ))) (ks : Trees (List ℕ)) → forgetNode f ≡ nodeOf n is ks → eqb n 7 ≡ true → eqb (f .tag) 7 ≡ true
       tag-7 f n is ks z w = rw (node-tag f n is ks z) w
 

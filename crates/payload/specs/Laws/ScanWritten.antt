@@ -142,8 +142,11 @@ module _ (c : Capacities) (store : List ℕ) where
 
   known-first : (d t : ℕ) (is : List (Item Part)) (ks ts : Trees Part) → Known d (node t is ks ts) → Known d (node t is ks nil)
   unfolding obeyRules allItems forgetTrees InTrees
-  known-first d t is ks ts h = record { k-obeys = and-both (and-left _ _ (h .k-obeys)) (and-both (and-left _ _ (and-right _ _ (h .k-obeys))) refl);
-      k-sound = and-both (and-left _ _ (h .k-sound)) (and-both (and-left _ _ (and-right _ _ (h .k-sound))) refl); k-in = (h .k-in .0, h .k-in .1, tt) }
+  known-first d t is ks ts h = record {
+    k-obeys = and-both (and-left _ _ (h .k-obeys)) (and-both (and-left _ _ (and-right _ _ (h .k-obeys))) refl);
+    k-sound = and-both (and-left _ _ (h .k-sound)) (and-both (and-left _ _ (and-right _ _ (h .k-sound))) refl);
+    k-in = (h .k-in .0, h .k-in .1, tt);
+  }
 
   known-rest : (d t : ℕ) (is : List (Item Part)) (ks ts : Trees Part) → Known d (node t is ks ts) → Known d ts
   unfolding obeyRules allItems forgetTrees InTrees
@@ -217,10 +220,10 @@ module _ (c : Capacities) (store : List ℕ) where
   gives-scan-pairs d r R seen (node t is ks nil) q w k = unfold distinctPairs roots forgetTrees in (false≢true w)
   gives-scan-pairs d r R seen (node t is ks (node t′ is′ ks′ ts)) q w k =
       subst (λ (n : ℕ). Gives c (scanPairs n seen r) (rowTable (node t is ks (node t′ is′ ks′ ts))) (size (node t is ks (node t′ is′ ks′ ts))) 0 (λ us. us ≡ withoutSpans (node t is ks (node t′ is′ ks′ ts))))
-          (half-count t is ks t′ is′ ks′ ts)
+      (half-count t is ks t′ is′ ks′ ts)
       (gives-scan-pair d (rootCount ts / 2) r R seen t is ks t′ is′ ks′ ts (value₁ t is ks _ q) (pair₁ seen t is ks t′ is′ ks′ ts w) (known-first d t is ks _ k)
-          (value₁ t′ is′ ks′ _ (value₂ t is ks _ q)) (known-first d t′ is′ ks′ ts (known-rest d t is ks _ k))
-          (λ u z. gives-scan-pairs d r R (nodeKey u ∷ seen) ts (value₂ t′ is′ ks′ _ (value₂ t is ks _ q)) (rw z at (pair₂ seen t is ks t′ is′ ks′ ts w)) (known-rest d t′ is′ ks′ ts (known-rest d t is ks _ k))))
+      (value₁ t′ is′ ks′ _ (value₂ t is ks _ q)) (known-first d t′ is′ ks′ ts (known-rest d t is ks _ k))
+      (λ u z. gives-scan-pairs d r R (nodeKey u ∷ seen) ts (value₂ t′ is′ ks′ _ (value₂ t is ks _ q)) (rw z at (pair₂ seen t is ks t′ is′ ks′ ts w)) (known-rest d t′ is′ ks′ ts (known-rest d t is ks _ k))))
 
   kidsNumber : Kids → ℕ → ℕ
   kidsNumber noValue n = 0

@@ -53,9 +53,11 @@ if-either false x y C f g e = g e
 pub kinded : (d : ℕ) (ts : Trees (List ℕ)) → obeyRules d ts ≡ true → Kinded ts
 unfolding obeyRules Kinded
 kinded d nil e = tt
-kinded d (node t is ks ts) e = (rule-kinds (shape t) is (roots ks) (and-left _ _ e),
-    if-either (leb t 26) _ _ (Kinded ks) (λ h. kinded (pred d) ks (and-right _ _ h)) (λ h. kinded d ks h) (and-left _ _ (and-right _ _ e)),
-    kinded d ts (and-right _ _ (and-right _ _ e)))
+kinded d (node t is ks ts) e = (
+  rule-kinds (shape t) is (roots ks) (and-left _ _ e),
+  if-either (leb t 26) _ _ (Kinded ks) (λ h. kinded (pred d) ks (and-right _ _ h)) (λ h. kinded d ks h) (and-left _ _ (and-right _ _ e)),
+  kinded d ts (and-right _ _ (and-right _ _ e)),
+)
 
 item-width : (i : Item Part) → length (itemWords i) ≡ kindWidth (kindOf i)
 unfolding itemWords partWords kindWidth kindOf
@@ -165,23 +167,35 @@ sound-line T e = go (eqb (T .flag) 0) refl
     go : (b : Bool) → eqb (T .flag) 0 ≡ b → HoldsLine T (lineOf T)
     go true q =
         let d = rw (q, lineSound) at e in
-        rw (q, lineOf) (record { starts-are = nil-is _ (and-right _ _ (and-right _ _ d)); flag-is = eqb-true _ _ q; offset-is = eqb-true _ _ (and-left _ _ d);
-            length-is = eqb-true _ _ (and-left _ _ (and-right _ _ d)); name-in = tt; obeys = refl })
+        rw (q, lineOf) (record {
+          starts-are = nil-is _ (and-right _ _ (and-right _ _ d));
+          flag-is = eqb-true _ _ q;
+          offset-is = eqb-true _ _ (and-left _ _ d);
+          length-is = eqb-true _ _ (and-left _ _ (and-right _ _ d));
+          name-in = tt;
+          obeys = refl;
+        })
     go false q =
         let d = rw (q, lineSound) at e in
         let h : T .nameOffset + T .nameLength ≤ length (T .store) = leb-true _ _ (and-left _ _ (and-right _ _ d)) in
         let n : length (take (T .nameLength) (drop (T .nameOffset) (T .store))) ≡ T .nameLength = length-take-le (T .nameLength) (drop (T .nameOffset) (T .store)) (rw (length-drop (T .nameOffset) (T .store)) (omega arith)) in
-        rw (q, lineOf) (record { starts-are = refl; flag-is = eqb-true _ _ (and-left _ _ d); offset-is = refl; length-is = sym n;
-            name-in = record { in-store = rw n h; its-bytes = ap (λ (x : ℕ). take x (drop (T .nameOffset) (T .store))) n };
-            obeys = and-right _ _ (and-right _ _ d) })
+        rw (q, lineOf) (record {
+          starts-are = refl;
+          flag-is = eqb-true _ _ (and-left _ _ d);
+          offset-is = refl;
+          length-is = sym n;
+          name-in = record { in-store = rw n h; its-bytes = ap (λ (x : ℕ). take x (drop (T .nameOffset) (T .store))) n };
+          obeys = and-right _ _ (and-right _ _ d);
+        })
 
 line-holds : (T : Tables) (x : Option (LineIndex Part)) → HoldsLine T x → (lineSound T ≡ true) × (lineOf T ≡ x)
 unfolding lineSound lineOf if_then_else_ lineStarts lineFlag lineName InLine lineRule forgetLine isNil
 line-holds T none h = (rw (h .flag-is) (and-both (eq-eqb _ _ (h .offset-is)) (and-both (eq-eqb _ _ (h .length-is)) (rw (h .starts-are)))), rw (h .flag-is))
 line-holds T (some x) h =
-    let b : take (T .nameLength) (drop (T .nameOffset) (T .store)) ≡ x .name .bytes = rw (h .length-is, h .offset-is) (h .name-in .its-bytes) in
-    (rw (h .flag-is) (and-both refl (and-both (le-leb (T .nameOffset + T .nameLength) (length (T .store)) (rw (h .offset-is, h .length-is) (h .name-in .in-store))) (and-both (rw b (and-left _ _ (h .obeys))) (rw (h .starts-are) (and-right _ _ (h .obeys)))))),
-    rw (h .flag-is) (λ i. some (record { name = record { offset = h .offset-is i; bytes = b i }; starts = h .starts-are i })))
+    let b : take (T .nameLength) (drop (T .nameOffset) (T .store)) ≡ x .name .bytes = rw (h .length-is, h .offset-is) (h .name-in .its-bytes) in (
+      rw (h .flag-is) (and-both refl (and-both (le-leb (T .nameOffset + T .nameLength) (length (T .store)) (rw (h .offset-is, h .length-is) (h .name-in .in-store))) (and-both (rw b (and-left _ _ (h .obeys))) (rw (h .starts-are) (and-right _ _ (h .obeys)))))),
+      rw (h .flag-is) (λ i. some (record { name = record { offset = h .offset-is i; bytes = b i }; starts = h .starts-are i })),
+    )
 
 ---- a run over tables
 
@@ -239,8 +253,13 @@ unfolding single rowTable obeyRules forgetTrees allItems InTrees
 bare T n s h =
     let w = scan-took (T .store) .run (start (T .rows)) n s (h .scanned) in
     let k = w .holds in
-    record { bare-tag = eqb-true _ _ (k .n-tag); bare-rows = w .split ∙ ap₂ _++_ (k .n-words) (nil-is _ (h .no-more));
-        bare-rules = and-both (k .n-rule) (and-both (k .n-deep) refl); bare-sane = and-both (k .n-sound) (and-both (k .n-kids-sound) refl); bare-in = (k .n-items, k .n-kids, tt) }
+    record {
+      bare-tag = eqb-true _ _ (k .n-tag);
+      bare-rows = w .split ∙ ap₂ _++_ (k .n-words) (nil-is _ (h .no-more));
+      bare-rules = and-both (k .n-rule) (and-both (k .n-deep) refl);
+      bare-sane = and-both (k .n-sound) (and-both (k .n-kids-sound) refl);
+      bare-in = (k .n-items, k .n-kids, tt);
+    }
 
 give-single : (ss : List Span) (n : Node Part) → give ss (single n) ≡ single (giveNode ss n)
 unfolding give single giveNode nodeOf
@@ -277,7 +296,8 @@ passed-holds T n s h =
     record {
       is-tables = λ i. record { store = T .store; rows = r i; spans = spans-back T n (h .spans-pass) i; starts = l .starts-are i; flag = l .flag-is i; nameOffset = l .offset-is i; nameLength = l .length-is i };
       in-trees = rw e at (in-given (T .store) (spansOf (T .spans)) (single n) (b .bare-in));
-      in-line = l .name-in }
+      in-line = l .name-in;
+    }
 
 passed-script : (T : Tables) (n : Node Part) (s : State) → Passed T n s → SoundScript (forgetScript (scriptFrom T n))
 unfolding forgetScript
@@ -288,7 +308,8 @@ passed-script T n s h =
       outer-is-chunk = unfold forgetNode giveNode nodeOf in (b .bare-tag);
       obeys = rw e at (obey-given 32 (spansOf (T .spans)) (single n) ∙ b .bare-rules);
       items-sound = rw e at (sound-given (spansOf (T .spans)) (single n) (spans-small T n (h .spans-pass)) (omega (arith, spans-count T n (h .spans-pass))) (b .bare-sane));
-      line-sound = sound-line T (h .line-passes) .obeys }
+      line-sound = sound-line T (h .line-passes) .obeys;
+    }
 
 -- sound tables hold their script
 pub sound-holds : (T : Tables) (u : Script Part) (s : State) → scriptOf T ≡ ok u s → Holds T u
@@ -335,8 +356,14 @@ module _ (T : Tables) (u : Script Part) (h : Holds T u) (k : SoundScript (forget
 
   held-line : HoldsLine T (u .line)
   unfolding tablesOf forgetScript
-  held-line = record { starts-are = ap (λ (U : Tables). U .starts) (h .is-tables); flag-is = ap (λ (U : Tables). U .flag) (h .is-tables); offset-is = ap (λ (U : Tables). U .nameOffset) (h .is-tables);
-      length-is = ap (λ (U : Tables). U .nameLength) (h .is-tables); name-in = h .in-line; obeys = k .line-sound }
+  held-line = record {
+    starts-are = ap (λ (U : Tables). U .starts) (h .is-tables);
+    flag-is = ap (λ (U : Tables). U .flag) (h .is-tables);
+    offset-is = ap (λ (U : Tables). U .nameOffset) (h .is-tables);
+    length-is = ap (λ (U : Tables). U .nameLength) (h .is-tables);
+    name-in = h .in-line;
+    obeys = k .line-sound;
+  }
 
   held-rules : obeyRules 32 (forgetTrees (single (u .outer))) ≡ true
   unfolding forgetScript
@@ -366,8 +393,12 @@ module _ (T : Tables) (u : Script Part) (h : Holds T u) (k : SoundScript (forget
 
   held-passes : Passed T (bareNode (u .outer)) (ended T u)
   unfolding spansSound isNil
-  held-passes = record { scanned = held-scan; no-more = refl; spans-pass = and-both (eq-eqb _ _ held-long) (rw spans-of-held (small-span-table (single (u .outer)) held-sound));
-      line-passes = line-holds T (u .line) held-line .0 }
+  held-passes = record {
+    scanned = held-scan;
+    no-more = refl;
+    spans-pass = and-both (eq-eqb _ _ held-long) (rw spans-of-held (small-span-table (single (u .outer)) held-sound));
+    line-passes = line-holds T (u .line) held-line .0;
+  }
 
   held-outer : giveNode (spansOf (T .spans)) (bareNode (u .outer)) ≡ u .outer
   held-outer = single-one _ _ (sym (give-single (spansOf (T .spans)) (bareNode (u .outer)))

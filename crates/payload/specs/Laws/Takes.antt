@@ -184,8 +184,12 @@ module _ (store : List ℕ) where
 
   cons-T : (h : ℕ → Bool) (g : Test) (d : ℕ) (u : Node Part) (ts : Trees Part) (ws vs : List ℕ) → NodeT h g d u ws → TreesT d ts vs → TreesT d (cons u ts) (ws ++ vs)
   unfolding cons rowTable obeyRules forgetTrees allItems InTrees
-  cons-T h g d u ts ws vs a b = record { t-words = ap₂ _++_ (a .n-words) (b .t-words); t-shaped = and-both (a .n-rule) (and-both (a .n-deep) (b .t-shaped));
-      t-sound = and-both (a .n-sound) (and-both (a .n-kids-sound) (b .t-sound)); t-in = (a .n-items, a .n-kids, b .t-in) }
+  cons-T h g d u ts ws vs a b = record {
+    t-words = ap₂ _++_ (a .n-words) (b .t-words);
+    t-shaped = and-both (a .n-rule) (and-both (a .n-deep) (b .t-shaped));
+    t-sound = and-both (a .n-sound) (and-both (a .n-kids-sound) (b .t-sound));
+    t-in = (a .n-items, a .n-kids, b .t-in);
+  }
 
   cast-T : (d : ℕ) (ts : Trees Part) (ws vs : List ℕ) → ws ≡ vs → TreesT d ts ws → TreesT d ts vs
   cast-T d ts ws vs e t = rw (← e) t
@@ -198,14 +202,14 @@ module _ (store : List ℕ) where
   takes-times h g d r R zero = takes-pure nil (λ ts ws. TreesT d ts ws × (allTags h (roots (forgetTrees ts)) ≡ true) × (rootCount ts ≡ 0)) (nil-T d, unfold allTags roots forgetTrees in refl, unfold rootCount in refl)
   takes-times h g d r R (suc n) = takes-bind R (λ u ws a. takes-bind (takes-times h g d r R n) (λ ts vs b.
       takes-pure (cons u ts) (λ ts us. TreesT d ts (ws ++ (vs ++ us)) × (allTags h (roots (forgetTrees ts)) ≡ true) × (rootCount ts ≡ suc n))
-          (cons-T h g d u ts ws (vs ++ []) a (cast-T d ts vs (vs ++ []) (sym (append-nil vs)) (b .0)), put-tags h u ts (a .n-tag) (b .1), put-count u ts n (b .2))))
+      (cons-T h g d u ts ws (vs ++ []) a (cast-T d ts vs (vs ++ []) (sym (append-nil vs)) (b .0)), put-tags h u ts (a .n-tag) (b .1), put-count u ts n (b .2))))
 
   takes-keys : (d : ℕ) (r : RowScan) → ScanT d r → (n : ℕ) (seen : List (List ℕ)) → Takes (scanKeys n seen r) (λ ts ws. TreesT d ts ws × ((allValues (roots (forgetTrees ts)) and distinctKeys seen (roots (forgetTrees ts))) ≡ true) × (rootCount ts ≡ n))
   unfolding scanKeys
   takes-keys d r R zero seen = takes-pure nil (λ ts ws. TreesT d ts ws × ((allValues (roots (forgetTrees ts)) and distinctKeys seen (roots (forgetTrees ts))) ≡ true) × (rootCount ts ≡ 0)) (nil-T d, unfold allTags roots forgetTrees distinctKeys _and_ in refl, unfold rootCount in refl)
   takes-keys d r R (suc n) seen = takes-bind (R (newKey seen)) (λ u ws a. takes-bind (takes-keys d r R n (nodeKey u ∷ seen)) (λ ts vs b.
       takes-pure (cons u ts) (λ ts us. TreesT d ts (ws ++ (vs ++ us)) × ((allValues (roots (forgetTrees ts)) and distinctKeys seen (roots (forgetTrees ts))) ≡ true) × (rootCount ts ≡ suc n))
-          (cons-T isValueTag (newKey seen) d u ts ws (vs ++ []) a (cast-T d ts vs (vs ++ []) (sym (append-nil vs)) (b .0)), put-keys seen u ts (a .n-tag) (a .n-test) (b .1), put-count u ts n (b .2))))
+      (cons-T isValueTag (newKey seen) d u ts ws (vs ++ []) a (cast-T d ts vs (vs ++ []) (sym (append-nil vs)) (b .0)), put-keys seen u ts (a .n-tag) (a .n-test) (b .1), put-count u ts n (b .2))))
 
   abbrev PairsT : ℕ → List (List ℕ) → ℕ → Trees Part → List ℕ → Type 0
   PairsT d seen n ts ws = TreesT d ts ws × ((allValues (roots (forgetTrees ts)) and distinctPairs seen (roots (forgetTrees ts))) ≡ true) × (rootCount ts ≡ n + n)
@@ -222,9 +226,11 @@ module _ (store : List ℕ) where
   unfolding scanPairs
   takes-pairs d r R zero seen = takes-pure nil (PairsT d seen 0) (nil-pairs d seen)
   takes-pairs d r R (suc n) seen = takes-bind (R (newKey seen)) (λ u ws a. takes-bind (R (anyRow)) (λ v xs o. takes-bind (takes-pairs d r R n (nodeKey u ∷ seen)) (λ ts vs b.
-      takes-pure (cons u (cons v ts)) (λ ts us. PairsT d seen (suc n) ts (ws ++ (xs ++ (vs ++ us))))
-          (cons-T isValueTag (newKey seen) d u (cons v ts) ws (xs ++ (vs ++ [])) a (cons-T isValueTag (anyRow) d v ts xs (vs ++ []) o (cast-T d ts vs (vs ++ []) (sym (append-nil vs)) (b .0))),
-          put-pairs seen u v ts (a .n-tag) (a .n-test) (o .n-tag) (b .1), put-two u v ts n (b .2)))))
+      takes-pure (cons u (cons v ts)) (λ ts us. PairsT d seen (suc n) ts (ws ++ (xs ++ (vs ++ us)))) (
+        cons-T isValueTag (newKey seen) d u (cons v ts) ws (xs ++ (vs ++ [])) a (cons-T isValueTag (anyRow) d v ts xs (vs ++ []) o (cast-T d ts vs (vs ++ []) (sym (append-nil vs)) (b .0))),
+        put-pairs seen u v ts (a .n-tag) (a .n-test) (o .n-tag) (b .1),
+        put-two u v ts n (b .2),
+      ))))
 
   -- the words of the count
   countCell : Kids → ℕ → List ℕ
@@ -289,24 +295,60 @@ module _ (store : List ℕ) where
   unfolding scanWithKids nodeOf countWords rowRule
   takes-vals d r R g t kn kk = takes-bind (takes-items kn) (λ is ws a. takes-bind (takes-count kk) (λ n vs b. takes-then (takes-finish (unusedWords (withKids kn kk)) (g t (forgetItems is))) (λ u xs x. takes-bind (takes-kids d r R kk n) (λ ts ys y.
       takes-pure (nodeOf t is ts) (λ u us. BodyT (withKids kn kk) g d t u (ws ++ (vs ++ (xs ++ (ys ++ us)))))
-          (record { b-tag = refl; b-words = four ws vs xs ys _ _ _ _ (a .is-words) (b ∙ y .kt-count) (x .0) (y .kt-trees .t-words); b-test = x .1; b-rule = and-both (a .is-kinds) (y .kt-rule); b-items = a .is-in; b-sound = a .items-sound;
-              b-shaped = y .kt-trees .t-shaped; b-kids = y .kt-trees .t-in; b-kids-sound = y .kt-trees .t-sound })))))
+      (record {
+        b-tag = refl;
+        b-words = four ws vs xs ys _ _ _ _ (a .is-words) (b ∙ y .kt-count) (x .0) (y .kt-trees .t-words);
+        b-test = x .1;
+        b-rule = and-both (a .is-kinds) (y .kt-rule);
+        b-items = a .is-in;
+        b-sound = a .items-sound;
+        b-shaped = y .kt-trees .t-shaped;
+        b-kids = y .kt-trees .t-in;
+        b-kids-sound = y .kt-trees .t-sound;
+      })))))
 
   module _ (d : ℕ) (g : Test) (u : Node Part) (ws : List ℕ) where
     wrap-32 : BodyT (withKids (ItemKind.code ∷ []) values) g d 32 u ws → NodeT (isTag 32) g d u (32 ∷ ws)
     unfolding rowWords shape if_then_else_
-    wrap-32 b = let e = b .b-tag in record { n-words = rw e (ap (λ (x : List ℕ). 32 ∷ x) (b .b-words)); n-tag = eq-eqb _ _ e; n-test = rw e (b .b-test); n-rule = rw e (b .b-rule); n-deep = rw e (b .b-shaped);
-        n-items = b .b-items; n-sound = b .b-sound; n-kids = b .b-kids; n-kids-sound = b .b-kids-sound }
+    wrap-32 b = let e = b .b-tag in record {
+      n-words = rw e (ap (λ (x : List ℕ). 32 ∷ x) (b .b-words));
+      n-tag = eq-eqb _ _ e;
+      n-test = rw e (b .b-test);
+      n-rule = rw e (b .b-rule);
+      n-deep = rw e (b .b-shaped);
+      n-items = b .b-items;
+      n-sound = b .b-sound;
+      n-kids = b .b-kids;
+      n-kids-sound = b .b-kids-sound;
+    }
 
     wrap-33 : BodyT (withKids (ItemKind.string ∷ []) oneValue) g d 33 u ws → NodeT (isTag 33) g d u (33 ∷ ws)
     unfolding rowWords shape if_then_else_
-    wrap-33 b = let e = b .b-tag in record { n-words = rw e (ap (λ (x : List ℕ). 33 ∷ x) (b .b-words)); n-tag = eq-eqb _ _ e; n-test = rw e (b .b-test); n-rule = rw e (b .b-rule); n-deep = rw e (b .b-shaped);
-        n-items = b .b-items; n-sound = b .b-sound; n-kids = b .b-kids; n-kids-sound = b .b-kids-sound }
+    wrap-33 b = let e = b .b-tag in record {
+      n-words = rw e (ap (λ (x : List ℕ). 33 ∷ x) (b .b-words));
+      n-tag = eq-eqb _ _ e;
+      n-test = rw e (b .b-test);
+      n-rule = rw e (b .b-rule);
+      n-deep = rw e (b .b-shaped);
+      n-items = b .b-items;
+      n-sound = b .b-sound;
+      n-kids = b .b-kids;
+      n-kids-sound = b .b-kids-sound;
+    }
 
     value-T : (t : ℕ) → leb t 26 ≡ true → BodyT (shape t) g d t u ws → NodeT isValueTag g (suc d) u (t ∷ ws)
     unfolding rowWords if_then_else_
-    value-T t q b = let e = b .b-tag in record { n-words = rw e (ap (λ (x : List ℕ). t ∷ x) (b .b-words)); n-tag = rw e q; n-test = rw e (b .b-test); n-rule = rw e (b .b-rule);
-        n-deep = rw e (rw q (and-both (lt-ltb 0 (suc d) (omega arith)) (b .b-shaped))); n-items = b .b-items; n-sound = b .b-sound; n-kids = b .b-kids; n-kids-sound = b .b-kids-sound }
+    value-T t q b = let e = b .b-tag in record {
+      n-words = rw e (ap (λ (x : List ℕ). t ∷ x) (b .b-words));
+      n-tag = rw e q;
+      n-test = rw e (b .b-test);
+      n-rule = rw e (b .b-rule);
+      n-deep = rw e (rw q (and-both (lt-ltb 0 (suc d) (omega arith)) (b .b-shaped)));
+      n-items = b .b-items;
+      n-sound = b .b-sound;
+      n-kids = b .b-kids;
+      n-kids-sound = b .b-kids-sound;
+    }
 
   head-cast : (h : ℕ → Bool) (g : Test) (d : ℕ) (u : Node Part) (t t′ : ℕ) (xs ws : List ℕ) → xs ≡ t′ ∷ [] → t′ ≡ t → NodeT h g d u (t ∷ ws) → NodeT h g d u (xs ++ ws)
   head-cast h g d u t t′ xs ws e f n = rw (e, f) n
@@ -338,18 +380,45 @@ module _ (store : List ℕ) where
   takes-shape d r R g t (withKids kn kk) = takes-vals d r R g t kn kk
   takes-shape d r R g t (withChunk kn) = takes-bind (takes-items kn) (λ is ws a. takes-then (takes-finish (unusedWords (withChunk kn)) (g t (forgetItems is))) (λ u xs x. takes-bind (takes-times (isTag 32) (anyRow) d _ (takes-32 d r R) 1) (λ ts ys y.
       takes-pure (nodeOf t is ts) (λ u us. BodyT (withChunk kn) g d t u (ws ++ (xs ++ (ys ++ us))))
-          (record { b-tag = refl; b-words = unfold countWords in (three ws xs ys _ _ _ (a .is-words) (x .0) (y .0 .t-words)); b-test = x .1; b-rule = unfold rowRule in (and-both (a .is-kinds) (and-both (eq-eqb _ _ (count-roots ts ∙ y .2)) (y .1)));
-              b-items = a .is-in; b-sound = a .items-sound; b-shaped = y .0 .t-shaped; b-kids = y .0 .t-in; b-kids-sound = y .0 .t-sound }))))
+      (record {
+        b-tag = refl;
+        b-words = unfold countWords in (three ws xs ys _ _ _ (a .is-words) (x .0) (y .0 .t-words));
+        b-test = x .1;
+        b-rule = unfold rowRule in (and-both (a .is-kinds) (and-both (eq-eqb _ _ (count-roots ts ∙ y .2)) (y .1)));
+        b-items = a .is-in;
+        b-sound = a .items-sound;
+        b-shaped = y .0 .t-shaped;
+        b-kids = y .0 .t-in;
+        b-kids-sound = y .0 .t-sound;
+      }))))
   takes-shape d r R g t (withFields kn) = takes-bind (takes-items kn) (λ is ws a. takes-bind takes-word (λ n vs b. takes-then (takes-finish (unusedWords (withFields kn)) (g t (forgetItems is))) (λ u xs x. takes-bind (takes-times (isTag 33) (anyRow) d _ (takes-33 d r R) n) (λ ts ys y.
       takes-pure (nodeOf t is ts) (λ u us. BodyT (withFields kn) g d t u (ws ++ (vs ++ (xs ++ (ys ++ us)))))
-          (record { b-tag = refl; b-words = unfold countWords in (four ws vs xs ys _ _ _ _ (a .is-words) (b ∙ ap (λ (x : ℕ). x ∷ []) (sym (y .2))) (x .0) (y .0 .t-words)); b-test = x .1; b-rule = unfold rowRule in (and-both (a .is-kinds) (y .1));
-              b-items = a .is-in; b-sound = a .items-sound; b-shaped = y .0 .t-shaped; b-kids = y .0 .t-in; b-kids-sound = y .0 .t-sound })))))
+      (record {
+        b-tag = refl;
+        b-words = unfold countWords in (four ws vs xs ys _ _ _ _ (a .is-words) (b ∙ ap (λ (x : ℕ). x ∷ []) (sym (y .2))) (x .0) (y .0 .t-words));
+        b-test = x .1;
+        b-rule = unfold rowRule in (and-both (a .is-kinds) (y .1));
+        b-items = a .is-in;
+        b-sound = a .items-sound;
+        b-shaped = y .0 .t-shaped;
+        b-kids = y .0 .t-in;
+        b-kids-sound = y .0 .t-sound;
+      })))))
   takes-shape d r R g t (withTemplate kn) = takes-bind (takes-items kn) (λ is ws a. takes-bind takes-word (λ n vs b. takes-then (takes-finish (unusedWords (withTemplate kn)) (g t (forgetItems is))) (λ u xs x. takes-bind (R (isFunction)) (λ f fs o.
       takes-bind (takes-times isValueTag (anyRow) d _ (R (anyRow)) n) (λ ts ys y.
       takes-pure (nodeOf t is (cons f ts)) (λ u us. BodyT (withTemplate kn) g d t u (ws ++ (vs ++ (xs ++ (fs ++ (ys ++ us))))))
-          (let k = cons-T isValueTag (isFunction) d f ts fs ys o (y .0) in
-           record { b-tag = refl; b-words = five ws vs xs fs ys _ _ _ _ _ (a .is-words) (b ∙ closure-count kn f ts n (y .2)) (x .0) (o .n-words) (y .0 .t-words) ∙ ap (λ (z : List ℕ). (itemsWords is ++ (countWords (withTemplate kn) (rootCount (cons f ts)) ++ replicate (unusedWords (withTemplate kn)) 0)) ++ z) (sym (flat-put f ts));
-              b-test = x .1; b-rule = closure-rule kn (forgetItems is) f ts (a .is-kinds) (unfold isFunction in (o .n-test)) (y .1); b-items = a .is-in; b-sound = a .items-sound; b-shaped = k .t-shaped; b-kids = k .t-in; b-kids-sound = k .t-sound }))))))
+      (let k = cons-T isValueTag (isFunction) d f ts fs ys o (y .0) in
+      record {
+        b-tag = refl;
+        b-words = five ws vs xs fs ys _ _ _ _ _ (a .is-words) (b ∙ closure-count kn f ts n (y .2)) (x .0) (o .n-words) (y .0 .t-words) ∙ ap (λ (z : List ℕ). (itemsWords is ++ (countWords (withTemplate kn) (rootCount (cons f ts)) ++ replicate (unusedWords (withTemplate kn)) 0)) ++ z) (sym (flat-put f ts));
+        b-test = x .1;
+        b-rule = closure-rule kn (forgetItems is) f ts (a .is-kinds) (unfold isFunction in (o .n-test)) (y .1);
+        b-items = a .is-in;
+        b-sound = a .items-sound;
+        b-shaped = k .t-shaped;
+        b-kids = k .t-in;
+        b-kids-sound = k .t-sound;
+      }))))))
 
   takes-value : (d : ℕ) → ScanT d (scanValue store d)
   unfolding scanValue

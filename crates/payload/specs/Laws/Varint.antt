@@ -15,6 +15,8 @@ use Rattle.payload.specs.Reading.{Capacities}
 module _ {c : Capacities} where
   pub gives-varint : (n : ℕ) → n < 2 ^ 64 → Gives c varint (uleb128 n) 0 0 (λ a. a ≡ n)
   unfolding varint afterVarint
-  gives-varint n h = record { run = λ s t e hr hs.
-      let q : varintOf (s .rest) 0 ≡ Number n (0 + length (uleb128 n)) = reads-uleb (s .rest) 0 n t h e in
-      (n, rw (q, zero-add (length (uleb128 n))) (ap (ok n) (sym (after-bytes (length (uleb128 n)) s))), refl) }
+  gives-varint n h = record {
+    run = λ s t e hr hs.
+        let q : varintOf (s .rest) 0 ≡ Number n (0 + length (uleb128 n)) = reads-uleb (s .rest) 0 n t h e in
+        (n, rw (q, zero-add (length (uleb128 n))) (ap (ok n) (sym (after-bytes (length (uleb128 n)) s))), refl);
+  }

@@ -16,8 +16,9 @@ use Rattle.slices.specs.Zeros.{zeroFrom, zeros}
 use Rattle.payload.specs.Choice.{_and_, _or_, if_then_else_}
 use Rattle.payload.specs.Laws.Pool.{and-both, false≢true}
 use Rattle.payload.specs.Pool.{isIn}
-use Rattle.pool_index.specs.Laws.Strings.{length-strings, strings-at}
-use Rattle.pool_index.specs.Strings.{distinct, poolStrings}
+use Rattle.pool_index.specs.Strings.{distinct}
+use Rattle.pool_check.specs.Laws.Plain.{length-plain, plain-at}
+use Rattle.pool_check.specs.Plain.{plainStrings}
 use Rattle.pool_check.specs.Chains.{ChunkTested, Falls, Reach, Searched, Within, entryBytes, headsAfter}
 use Rattle.pool_check.specs.Hash.{bucketOf}
 
@@ -232,8 +233,10 @@ module _ {store pool : List ℕ} {base buckets links : ℕ} {heads nexts : List 
     where
       s′ : Searched store pool base nexts head x false
       s′ = subst (λ (n : ℕ). Searched store pool base nexts n x false) eh s
+
       low : bucketOf buckets x < buckets
       low = omega (arith, eb)
+
       go : (t : Bool) → ltb (k - base) (length nexts) ≡ t → Chunk store pool base buckets links heads₁ nexts₁ (k + 1)
       go true q =
           let a : heads₁ ≡ set heads (bucketOf buckets x) (k - base + 1) = e ∙ rw (q, eb) in
@@ -246,9 +249,11 @@ module _ {store pool : List ℕ} {base buckets links : ℕ} {heads nexts : List 
           rw (a, c) (chunk-past l (omega (arith, g .nexts-long)) s′)
 
   pub chunk-end : length pool / 2 ≤ k → ChunkTested store pool base (base + links) true
-  chunk-end h = record { tested = λ i j a b c d.
-      let e : base + (i - base) ≡ i = omega arith in
-      ap (λ (n : ℕ). same (entryBytes store pool n) (entryBytes store pool j)) (sym e) ∙ g .differ (i - base) j (omega (arith, g .upto)) (omega arith) (omega arith) }
+  chunk-end h = record {
+    tested = λ i j a b c d.
+        let e : base + (i - base) ≡ i = omega arith in
+        ap (λ (n : ℕ). same (entryBytes store pool n) (entryBytes store pool j)) (sym e) ∙ g .differ (i - base) j (omega (arith, g .upto)) (omega arith) (omega arith);
+  }
 
 ---- all chunks
 
@@ -299,15 +304,15 @@ not-distinct (y ∷ l) (suc i) (suc j) h g e = go (not (isIn y l)) (not-distinct
     go false q = refl
 
 module _ (store pool : List ℕ) where
-  pub differ-end : {base links : ℕ} {nexts : List ℕ} → Differ store pool base links nexts → length pool / 2 ≤ base → true ≡ distinct (poolStrings store pool)
-  differ-end d h = sym (all-distinct (poolStrings store pool) (λ i j l m.
-      let n : j < length pool / 2 = omega (arith, length-strings store pool) in
-      rw (strings-at store pool i (omega arith), strings-at store pool j n) (d .differ i j (omega arith) l n)))
+  pub differ-end : {base links : ℕ} {nexts : List ℕ} → Differ store pool base links nexts → length pool / 2 ≤ base → true ≡ distinct (plainStrings store pool)
+  differ-end d h = sym (all-distinct (plainStrings store pool) (λ i j l m.
+      let n : j < length pool / 2 = omega (arith, length-plain store pool) in
+      rw (plain-at store pool i (omega arith), plain-at store pool j n) (d .differ i j (omega arith) l n)))
 
-  pub differ-not : {base end : ℕ} → ChunkTested store pool base end false → false ≡ distinct (poolStrings store pool)
+  pub differ-not : {base end : ℕ} → ChunkTested store pool base end false → false ≡ distinct (plainStrings store pool)
   differ-not t =
       let f = t .tested in
-      sym (not-distinct (poolStrings store pool) (f .0) (f .1) (f .2) (omega (arith, length-strings store pool, f .3)) (rw (strings-at store pool (f .0) (omega (arith, f .2, f .3)), strings-at store pool (f .1) (f .3)) (f .4)))
+      sym (not-distinct (plainStrings store pool) (f .0) (f .1) (f .2) (omega (arith, length-plain store pool, f .3)) (rw (plain-at store pool (f .0) (omega (arith, f .2, f .3)), plain-at store pool (f .1) (f .3)) (f .4)))
 
 pub falls-zeros : (n : ℕ) → Falls (zeros n)
 falls-zeros n = record { falls = λ i. let e = getD-zeros n i in omega arith }

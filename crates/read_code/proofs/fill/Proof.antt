@@ -15,7 +15,8 @@ use Rattle.read_code.proofs.fill.Statement.{statement}
 use Rattle.read_code.proofs.fill.Tie as tie
 
 abbrev Inv-loop : tie.InvT-loop
-Inv-loop spans₀ from n start end k₀ spans k = (k ≤ n) × (length spans ≡ length spans₀) × (spans ≡ put spans₀ (2 * from) (spanWords (replicate k (spanOf start end))))
+Inv-loop spans₀ from n start end k₀ spans k =
+    (k ≤ n) × (length spans ≡ length spans₀) × (spans ≡ put spans₀ (2 * from) (spanWords (replicate k (spanOf start end))))
 
 abbrev μ-loop : tie.MeasureT-loop
 μ-loop spans₀ from n start end k₀ spans k = n - k
@@ -34,13 +35,15 @@ slice-write-spans-2 c = simp length-set (omega arith)
 
 loop-again : tie.Need-loop-again Inv-loop μ-loop
 loop-again c =
-    let start = c .before .before .before .before .args .start in
-    let end = c .before .before .before .before .args .end in
+    let args = c .before .before .before .before .args in
+    let start = args .start in
+    let end = args .end in
     (search needs, simp length-set (c .before .loop .inv .1), span-more _ _ _ _ (spanOf start end) (c .before .loop .inv .2))
 
 returns-2 : tie.Need-returns-2 Inv-loop μ-loop
 returns-2 c =
-    let all : c .before .loop .k ≡ c .before .before .before .before .args .n = omega arith in
+    let args = c .before .before .before .before .args in
+    let all : c .before .loop .k ≡ args .n = omega arith in
     rw all at (c .before .loop .inv .2)
 
 pub fill-spec : {M : Type 1} → statement M

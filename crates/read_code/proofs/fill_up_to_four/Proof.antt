@@ -15,14 +15,17 @@ use Rattle.read_code.proofs.fill_up_to_four.Tie as tie
 returns : tie.Need-returns
 unfolding spanWords
 returns c =
-    let first = c .before .before .before .before .before .before .before .before .before .before .before .before .before .before .before .before .store-span in
-    let second = c .before .before .before .before .before .before .before .before .before .before .before .store-span2 in
-    let third = c .before .before .before .before .before .before .store-span3 in
     let last = c .before .before .store-span4 in
-    let second-at = c .before .before .before .before .before .before .before .before .before .before .before .before .least .ensures in
-    let third-at = c .before .before .before .before .before .before .before .least2 .ensures in
-    let args = c .before .before .before .before .before .before .before .before .before .before .before .before .before .before .before .before .before .before .before .args in
-    let pre = c .before .before .before .before .before .before .before .before .before .before .before .before .before .before .before .before .before .before .before .pre in
+    let at-store-span3 = c .before .before .before .before .before .before in
+    let third = at-store-span3 .store-span3 in
+    let at-store-span2 = at-store-span3 .before .before .before .before .before in
+    let second = at-store-span2 .store-span2 in
+    let at-store-span = at-store-span2 .before .before .before .before .before in
+    let first = at-store-span .store-span in
+    let args = at-store-span .before .before .before .args in
+    let pre = at-store-span .before .before .before .pre in
+    let second-at = at-store-span2 .before .least .ensures in
+    let third-at = at-store-span3 .before .least2 .ensures in
     let xs = args .spans .now in
     let from = args .from in
     let n = args .n in

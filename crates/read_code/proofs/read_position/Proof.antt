@@ -8,12 +8,15 @@ use Rattle.read_code.proofs.read_position.Tie as tie
 
 returns : tie.Need-returns
 returns c =
-    let delta = c .before .before .before .before .before .before in
-    let number = was-number (delta .delta .given .1) (delta .before .before .read-uvarint .ensures) in
-    let unzigzag = c .before .before .before .before .unzigzag in
+    let at-unzigzag = c .before .before .before .before in
+    let unzigzag = at-unzigzag .unzigzag in
+    let delta = at-unzigzag .before .before in
+    let read-uvarint = delta .before .before .read-uvarint in
+    let fits = delta .before .before .before .before .fits in
+    let number = was-number (delta .delta .given .1) (read-uvarint .ensures) in
     rw (signed (c .known-told2 .given .0 .1))
     (reads-position
-    (toZ-ofZ (delta .before .before .before .before .fits .old))
+    (toZ-ofZ (fits .old))
     (signed (unzigzag .ok) ∙ unzigzag .ensures)
     (c .before .before .before .add-delta .ensures)
     number
@@ -21,11 +24,13 @@ returns c =
 
 returns-2 : tie.Need-returns-2
 returns-2 c =
-    let delta = c .before .before .before .before .before in
-    let number = was-number (delta .delta .given .1) (delta .before .before .read-uvarint .ensures) in
     let unzigzag = c .before .before .before .unzigzag in
+    let delta = c .before .before .before .before .before in
+    let read-uvarint = delta .before .before .read-uvarint in
+    let fits = delta .before .before .before .before .fits in
+    let number = was-number (delta .delta .given .1) (read-uvarint .ensures) in
     reads-no-position
-    (toZ-ofZ (delta .before .before .before .before .fits .old))
+    (toZ-ofZ (fits .old))
     (signed (unzigzag .ok) ∙ unzigzag .ensures)
     (c .before .before .add-delta .ensures)
     number

@@ -20,17 +20,21 @@ loop-holds : tie.Need-loop-holds Inv-loop μ-loop
 loop-holds c = filling-none (c .before .before .pre .0)
 
 refusal-after-requires : tie.Need-refusal-after-requires Inv-loop μ-loop
-refusal-after-requires c κs = run-inside (c .before .before .before .before .read-run .ensures) (c .before .before .s .given .1)
+refusal-after-requires c κs =
+    let read-run = c .before .before .before .before .read-run in
+    run-inside (read-run .ensures) (c .before .before .s .given .1)
 
 returns : tie.Need-returns Inv-loop μ-loop
 returns c =
     let run = c .before .before in
+    let read-run = run .before .before .before .read-run in
     let test = run .before .before .before .before in
+    let loop = test .before .loop in
     record {
       outcome =
           λ x. filling-over
-          (test .before .loop .inv)
-          (run .before .before .before .read-run .ensures)
+          (loop .inv)
+          (read-run .ensures)
           (test .loop-test .taken)
           (run .before .s .given .1)
           (signed (run .known-told .given .0 .1))
@@ -43,25 +47,30 @@ returns c =
 loop-again : tie.Need-loop-again Inv-loop μ-loop
 loop-again c =
     let fill = c .before .before in
+    let to-word = fill .before .before .to-word in
     let run = fill .before .before .before .before .before in
+    let s = run .before .s in
+    let read-run = run .before .before .before .read-run in
     let test = run .before .before .before .before in
+    let loop = test .before .loop in
     filling-more
-    (test .before .loop .inv)
-    (run .before .before .before .read-run .ensures)
+    (loop .inv)
+    (read-run .ensures)
     (test .loop-test .taken)
-    (run .before .s .given .1)
+    (s .given .1)
     (signed (run .known-told .given .0 .1))
     (signed (run .known-told .given .1 .0 .1))
     (omega arith)
     (fill .fill .kept .0)
-    (fill .before .before .to-word .ensures)
+    (to-word .ensures)
     (fill .before .to-word2 .ensures)
     (fill .fill .ensures)
 
 returns-2 : tie.Need-returns-2 Inv-loop μ-loop
 returns-2 c =
     let test = c .before .before .before .before in
-    record { outcome = λ x. filling-stop (test .before .loop .inv) (c .before .before .before .read-run .ensures) (test .loop-test .taken) x (c .before .n .given .1) }
+    let loop = test .before .loop in
+    record { outcome = λ x. filling-stop (loop .inv) (c .before .before .before .read-run .ensures) (test .loop-test .taken) x (c .before .n .given .1) }
 
 returns-3 : tie.Need-returns-3 Inv-loop μ-loop
 returns-3 c = record { outcome = λ x. filling-under (c .before .before .loop .inv) (c .before .loop-test .left) x (c .if2 .taken) }

@@ -13,7 +13,8 @@ use Rattle.read_code.proofs.refusal_after.Statement.{statement}
 use Rattle.read_code.proofs.refusal_after.Tie as tie
 
 abbrev Inv-loop : tie.InvT-loop
-Inv-loop bytes count start end at left₀ s₀ e₀ next₀ left s e next = (runs : List Run) × Sofar bytes count (toZ w64 start) (toZ w64 end) at runs left (toZ w64 s) (toZ w64 e) next
+Inv-loop bytes count start end at left₀ s₀ e₀ next₀ left s e next =
+    (runs : List Run) × Sofar bytes count (toZ w64 start) (toZ w64 end) at runs left (toZ w64 s) (toZ w64 e) next
 
 abbrev μ-loop : tie.MeasureT-loop
 μ-loop bytes count start end at left₀ s₀ e₀ next₀ left s e next = left
@@ -23,10 +24,11 @@ loop-holds c = ([], sofar-none (c .before .pre))
 
 loop-again : tie.Need-loop-again Inv-loop μ-loop
 loop-again c =
-    let test = c .before .before .before .before in (
+    let test = c .before .before .before .before in
+    let loop = test .before .loop in (
       _,
       sofar-more
-          (test .before .loop .inv .1)
+          (loop .inv .1)
           (c .before .before .before .read-run-long .ensures)
           (test .loop-test .taken)
           (c .before .new-start .given .1)
@@ -37,8 +39,9 @@ loop-again c =
 returns : tie.Need-returns Inv-loop μ-loop
 returns c =
     let test = c .before .before .before .before in
+    let loop = test .before .loop in
     let fits = test .before .before .before .fits in
-    let stop = sofar-stop (test .before .loop .inv .1) (c .before .before .before .read-run-long .ensures) (test .loop-test .taken) (c .before .n .given .1) in
+    let stop = sofar-stop (loop .inv .1) (c .before .before .before .read-run-long .ensures) (test .loop-test .taken) (c .before .n .given .1) in
     record { answer = stopped _ _; reads = rw (toZ-ofZ (fits .start), toZ-ofZ (fits .end)) at stop; is = refl }
 
 returns-2 : tie.Need-returns-2 Inv-loop μ-loop

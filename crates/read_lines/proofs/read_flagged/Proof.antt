@@ -7,24 +7,42 @@ use Rattle.read_lines.proofs.read_flagged.Statement.{statement}
 use Rattle.read_lines.proofs.read_flagged.Tie as tie
 
 read-starts-requires : tie.Need-read-starts-requires
-read-starts-requires c κs = let f = was-read (c .before .before .count .given .1) (c .before .before .before .before .read-uvarint .ensures) in (f .inside, c .before .before .before .before .before .before .before .before .before .before .before .before .pre .0)
+read-starts-requires c κs =
+    let at-read-uvarint = c .before .before .before .before in
+    let pre = at-read-uvarint .before .before .before .before .before .before .before .before .pre in
+    let f = was-read (c .before .before .count .given .1) (at-read-uvarint .read-uvarint .ensures) in (f .inside, pre .0)
 
 returns : tie.Need-returns
-returns c = let name = name-read (c .before .before .before .before .before .before .before .before .before .before .before .before .before .before .read-pool-index .ensures) _ _ (c .before .before .before .before .before .before .before .before .before .before .before .before .o .given .1) in
-    let count = was-read (c .before .before .before .before .before .before .before .before .count .given .1) (c .before .before .before .before .before .before .before .before .before .before .read-uvarint .ensures) in
+returns c =
+    let at-read-starts = c .before .before .before .before .before in
+    let count-told = at-read-starts .before .before .before .count in
+    let at-read-uvarint = at-read-starts .before .before .before .before .before in
+    let o = at-read-uvarint .before .before .o in
+    let read-pool-index = at-read-uvarint .before .before .before .before .read-pool-index in
+    let name = name-read (read-pool-index .ensures) _ _ (o .given .1) in
+    let count = was-read (count-told .given .1) (at-read-uvarint .read-uvarint .ensures) in
     record {
       outcome = flagged name count refl
-          (name-length (c .before .before .before .before .before .before .before .before .before .before .before .before .before .before .read-pool-index .ensures) _ _ (c .before .before .before .before .before .before .before .before .before .before .before .before .o .given .1))
-          ((rw (c .before .k .given .1) at (c .before .before .before .before .before .read-starts .ensures)) .outcome);
+          (name-length (read-pool-index .ensures) _ _ (o .given .1))
+          ((rw (c .before .k .given .1) at (at-read-starts .read-starts .ensures)) .outcome);
     }
 
 returns-2 : tie.Need-returns-2
-returns-2 c = let name = name-read (c .before .before .before .before .before .before .before .before .before .before .before .before .before .before .read-pool-index .ensures) _ _ (c .before .before .before .before .before .before .before .before .before .before .before .before .o .given .1) in
-    let count = was-read (c .before .before .before .before .before .before .before .before .count .given .1) (c .before .before .before .before .before .before .before .before .before .before .read-uvarint .ensures) in
-    record { outcome = no-starts name count ((rw (c .before .n .given .1) at (c .before .before .before .before .before .read-starts .ensures)) .outcome) }
+returns-2 c =
+    let at-read-starts = c .before .before .before .before .before in
+    let count-told = at-read-starts .before .before .before .count in
+    let at-read-uvarint = at-read-starts .before .before .before .before .before in
+    let o = at-read-uvarint .before .before .o in
+    let read-pool-index = at-read-uvarint .before .before .before .before .read-pool-index in
+    let name = name-read (read-pool-index .ensures) _ _ (o .given .1) in
+    let count = was-read (count-told .given .1) (at-read-uvarint .read-uvarint .ensures) in
+    record { outcome = no-starts name count ((rw (c .before .n .given .1) at (at-read-starts .read-starts .ensures)) .outcome) }
 
 returns-3 : tie.Need-returns-3
-returns-3 c = let name = name-read (c .before .before .before .before .before .before .before .read-pool-index .ensures) _ _ (c .before .before .before .before .before .o .given .1) in
+returns-3 c =
+    let at-o = c .before .before .before .before .before in
+    let read-pool-index = at-o .before .before .read-pool-index in
+    let name = name-read (read-pool-index .ensures) _ _ (at-o .o .given .1) in
     record { outcome = no-count name (was-refused (c .before .n2 .given .1) (c .before .before .before .read-uvarint .ensures)) }
 
 returns-4 : tie.Need-returns-4

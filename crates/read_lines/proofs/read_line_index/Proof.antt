@@ -7,13 +7,20 @@ use Rattle.read_lines.proofs.read_line_index.Statement.{statement}
 use Rattle.read_lines.proofs.read_line_index.Tie as tie
 
 returns : tie.Need-returns
-returns c = record { outcome = bad-flag (was-read (c .before .before .flag .given .1) (c .before .before .before .before .read-byte .ensures)) (omega arith) }
+returns c =
+    let read-byte = c .before .before .before .before .read-byte in
+    record { outcome = bad-flag (was-read (c .before .before .flag .given .1) (read-byte .ensures)) (omega arith) }
 
 returns-2 : tie.Need-returns-2
-returns-2 c = record { outcome = without-lines (was-read (c .before .before .before .flag .given .1) (c .before .before .before .before .before .read-byte .ensures)) (c .if2 .taken) }
+returns-2 c =
+    let read-byte = c .before .before .before .before .before .read-byte in
+    record { outcome = without-lines (was-read (c .before .before .before .flag .given .1) (read-byte .ensures)) (c .if2 .taken) }
 
 returns-3 : tie.Need-returns-3
-returns-3 c = with-lines (was-read (c .before .before .before .before .before .before .before .flag .given .1) (c .before .before .before .before .before .before .before .before .before .read-byte .ensures)) (omega arith) (omega arith) (c .before .before .read-flagged .ensures)
+returns-3 c =
+    let at-flag = c .before .before .before .before .before .before .before in
+    let read-byte = at-flag .before .before .read-byte in
+    with-lines (was-read (at-flag .flag .given .1) (read-byte .ensures)) (omega arith) (omega arith) (c .before .before .read-flagged .ensures)
 
 returns-4 : tie.Need-returns-4
 returns-4 c = record { outcome = no-flag (was-refused (c .before .n .given .1) (c .before .before .before .read-byte .ensures)) }

@@ -23,15 +23,24 @@ returns : tie.Need-returns Inv-loop μ-loop
 returns c = record { outcome = storing-full (c .before .before .loop .inv) (c .before .loop-test .taken) (omega arith) }
 
 loop-again : tie.Need-loop-again Inv-loop μ-loop
-loop-again c = storing-more (c .before .before .before .before .before .before .before .before .loop .inv) (c .before .before .before .before .before .before .before .loop-test .taken) (c .before .before .before .before .before .before .if1 .left)
-    (was-position refl (c .before .before .before .moved .given .1) (c .before .before .before .before .before .read-position .ensures))
+loop-again c =
+    let at-read-position = c .before .before .before .before .before in
+    let if1 = at-read-position .before .if1 in
+    let loop-test = at-read-position .before .before .loop-test in
+    let loop = at-read-position .before .before .before .loop in
+    storing-more (loop .inv) (loop-test .taken) (if1 .left)
+    (was-position refl (c .before .before .before .moved .given .1) (at-read-position .read-position .ensures))
     (signed (c .before .before .known-told .given .0 .1)) (c .cut-u32 .ensures ∙ ap (λ (x : ℕ). x % 2 ^ 32) (c .before .to-word .ensures))
 
 returns-2 : tie.Need-returns-2 Inv-loop μ-loop
-returns-2 c = record {
-  outcome = storing-stop (c .before .before .before .before .before .before .loop .inv) (c .before .before .before .before .before .loop-test .taken) (c .before .before .before .before .if1 .left)
-      (no-position refl (c .before .n .given .1) (c .before .before .before .read-position .ensures));
-}
+returns-2 c =
+    let at-if1 = c .before .before .before .before in
+    let loop-test = at-if1 .before .loop-test in
+    let loop = at-if1 .before .before .loop in
+    record {
+      outcome = storing-stop (loop .inv) (loop-test .taken) (at-if1 .if1 .left)
+          (no-position refl (c .before .n .given .1) (c .before .before .before .read-position .ensures));
+    }
 
 returns-3 : tie.Need-returns-3 Inv-loop μ-loop
 returns-3 c = record { outcome = storing-all (c .before .loop .inv) (c .loop-test .left) }

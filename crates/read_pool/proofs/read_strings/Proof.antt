@@ -26,14 +26,22 @@ add-next : tie.Need-add-next Inv-loop μ-loop
 add-next c = let g = was-body _ _ (c .before .offset .given .1) (c .before .before .before .read-string .ensures) in omega (arith, g .inside)
 
 loop-again : tie.Need-loop-again Inv-loop μ-loop
-loop-again c = storing-more (c .before .before .before .before .before .before .loop .inv) (c .before .before .before .before .before .loop-test .taken) (c .before .before .before .before .if1 .left)
+loop-again c =
+    let at-if1 = c .before .before .before .before in
+    let loop-test = at-if1 .before .loop-test in
+    let loop = at-if1 .before .before .loop in
+    storing-more (loop .inv) (loop-test .taken) (at-if1 .if1 .left)
     _ _ (was-body _ _ (c .before .offset .given .1) (c .before .before .before .read-string .ensures))
 
 returns-2 : tie.Need-returns-2 Inv-loop μ-loop
-returns-2 c = record {
-  outcome = storing-stop (c .before .before .before .before .before .before .loop .inv) (c .before .before .before .before .before .loop-test .taken) (c .before .before .before .before .if1 .left)
-      (no-body (c .before .n .given .1) (c .before .before .before .read-string .ensures));
-}
+returns-2 c =
+    let at-if1 = c .before .before .before .before in
+    let loop-test = at-if1 .before .loop-test in
+    let loop = at-if1 .before .before .loop in
+    record {
+      outcome = storing-stop (loop .inv) (loop-test .taken) (at-if1 .if1 .left)
+          (no-body (c .before .n .given .1) (c .before .before .before .read-string .ensures));
+    }
 
 returns-3 : tie.Need-returns-3 Inv-loop μ-loop
 returns-3 c = record { outcome = storing-all (c .before .loop .inv) (c .loop-test .left) }

@@ -89,13 +89,22 @@ module _ {limits : Limits} {p : List ℕ} where
       let k = h ts (stateOf p s) (g .is) in
       let ws : rowTable (single (nodeOf t is ts)) ≡ row ++ rowTable ts = own-rows t is ts ∙ ap (λ (m : List ℕ). m ++ rowTable ts) (k .0) in
       let ss : spanWords (spanTable (single (nodeOf t is ts))) ≡ us ++ spanWords (spanTable ts) = own-spans t is ts ∙ ap (λ (m : List ℕ). m ++ spanWords (spanTable ts)) (sym e) in
-      record { out = (nodeOf t is ts, record {
-        is = rw (g .is);
-        wrote = two-runs a b c (rowWidth * i) (rowWidth * (i + 1)) row (rowTable ts) w (omega arith) (g .wrote) ∙ ap (λ (m : List ℕ). put a (rowWidth * i) m) (sym ws);
-        size = omega (arith, g .size, ap length ws, length-append row (rowTable ts));
-        filled = two-runs a′ b′ c′ (2 * j) (2 * l) us (spanWords (spanTable ts)) w′ z (g .filled) ∙ ap (λ (m : List ℕ). put a′ (2 * j) m) (sym ss);
-        spanned = omega (arith, g .spanned, ap length ss, length-append us (spanWords (spanTable ts)));
-        used = g .used; covered = g .covered; place = g .place; told = own-told t is ts (k .1) (g .told) }) }
+      record {
+        out = (
+          nodeOf t is ts,
+          record {
+            is = rw (g .is);
+            wrote = two-runs a b c (rowWidth * i) (rowWidth * (i + 1)) row (rowTable ts) w (omega arith) (g .wrote) ∙ ap (λ (m : List ℕ). put a (rowWidth * i) m) (sym ws);
+            size = omega (arith, g .size, ap length ws, length-append row (rowTable ts));
+            filled = two-runs a′ b′ c′ (2 * j) (2 * l) us (spanWords (spanTable ts)) w′ z (g .filled) ∙ ap (λ (m : List ℕ). put a′ (2 * j) m) (sym ss);
+            spanned = omega (arith, g .spanned, ap length ss, length-append us (spanWords (spanTable ts)));
+            used = g .used;
+            covered = g .covered;
+            place = g .place;
+            told = own-told t is ts (k .1) (g .told);
+          },
+        );
+      }
 
   -- a tree, then more after it
   pub ran-more : {a b c a′ b′ c′ : List ℕ} {i j : ℕ} {s z : State} {t : Node Part} {ts : Trees Part} {x : Result (Node Part)} {y : Result (Trees Part)} →
@@ -110,4 +119,8 @@ module _ {limits : Limits} {p : List ℕ} where
         size = omega (arith, g .size, h .size, ap length ws, length-append (rowTable (single t)) (rowTable ts));
         filled = two-runs a′ b′ c′ (2 * j) (2 * s .spans) (spanWords (spanTable (single t))) (spanWords (spanTable ts)) (g .filled) (g .spanned) (h .filled) ∙ ap (λ (m : List ℕ). put a′ (2 * j) m) (sym ss);
         spanned = omega (arith, g .spanned, h .spanned, ap length ss, length-append (spanWords (spanTable (single t))) (spanWords (spanTable ts)));
-        used = h .used; covered = h .covered; place = h .place; told = cons-told t ts (g .told) (h .told) }
+        used = h .used;
+        covered = h .covered;
+        place = h .place;
+        told = cons-told t ts (g .told) (h .told);
+      }

@@ -12,13 +12,10 @@ use Rattle.row_layout.proofs.Table.{agrees}
 use Rattle.row_layout.proofs.count_word.Statement.{statement}
 use Rattle.row_layout.proofs.count_word.Tie as tie
 
-digit-requires : tie.Need-digit-requires
-digit-requires c κs = search needs
-
 returns : tie.Need-returns
 returns c =
     agrees countWord _ _ _ _ _ (c .digit .ensures) (unfold entries digits countWord shape shapes kindsOf kindWidth kindsWidth if_then_else_ in tt)
     (unfold countWord in (ap (λ (s : Shape). 1 + kindsWidth (kindsOf s)) (shape-min (c .before .args .tag))))
 
 pub count-word-spec : {M : Type 1} → statement M
-count-word-spec = tie.close (tie.spec digit-requires returns)
+count-word-spec = tie.close (tie.spec (λ c κs. search needs) returns)

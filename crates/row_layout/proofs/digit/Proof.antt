@@ -6,29 +6,11 @@ use Rattle.row_layout.specs.Laws.Digits.{entry-low, entry-middle, entry-
 use Rattle.row_layout.proofs.digit.Statement.{statement}
 use Rattle.row_layout.proofs.digit.Tie as tie
 
-mul-result : tie.Need-mul-result
-mul-result c = search needs
-
-shr-result : tie.Need-shr-result
-shr-result c = search needs
-
 returns : tie.Need-returns
 returns c = sym (entry-low _ _ _ _ (omega arith))
 
-mul-result-2 : tie.Need-mul-result-2
-mul-result-2 c = search needs
-
-shr-result-2 : tie.Need-shr-result-2
-shr-result-2 c = search needs
-
 returns-2 : tie.Need-returns-2
 returns-2 c = sym (entry-middle _ _ _ _ (omega arith) (omega arith))
-
-mul-result-3 : tie.Need-mul-result-3
-mul-result-3 c = search needs
-
-shr-result-3 : tie.Need-shr-result-3
-shr-result-3 c = search needs
 
 returns-3 : tie.Need-returns-3
 returns-3 c = sym (entry-high _ _ _ _ (omega arith) (omega arith))
@@ -37,4 +19,7 @@ returns-4 : tie.Need-returns-4
 returns-4 c = sym (entry-none _ _ _ _ (omega arith))
 
 pub digit-spec : {M : Type 1} → statement M
-digit-spec = tie.close (tie.spec mul-result shr-result returns mul-result-2 shr-result-2 returns-2 mul-result-3 shr-result-3 returns-3 returns-4)
+digit-spec =
+    tie.close
+    (tie.spec (λ c. search needs) (λ c. search needs) returns (λ c. search needs) (λ c. search needs) returns-2 (λ c. search needs) (λ c. search needs)
+    returns-3 returns-4)

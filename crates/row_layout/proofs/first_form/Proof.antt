@@ -10,13 +10,10 @@ use Rattle.row_layout.proofs.Table.{agrees}
 use Rattle.row_layout.proofs.first_form.Statement.{statement}
 use Rattle.row_layout.proofs.first_form.Tie as tie
 
-digit-requires : tie.Need-digit-requires
-digit-requires c κs = search needs
-
 returns : tie.Need-returns
 returns c =
     agrees firstForm _ _ _ _ _ (c .digit .ensures) (unfold entries digits firstForm shape shapes kindsOf numberForm itemForm firstOf if_then_else_ in tt)
     (unfold firstForm in (ap (λ (s : Shape). firstOf (kindsOf s)) (shape-min (c .before .args .tag))))
 
 pub first-form-spec : {M : Type 1} → statement M
-first-form-spec = tie.close (tie.spec digit-requires returns)
+first-form-spec = tie.close (tie.spec (λ c κs. search needs) returns)

@@ -10,13 +10,10 @@ use Rattle.row_layout.proofs.Table.{agrees}
 use Rattle.row_layout.proofs.first_test.Statement.{statement}
 use Rattle.row_layout.proofs.first_test.Tie as tie
 
-digit-requires : tie.Need-digit-requires
-digit-requires c κs = search needs
-
 returns : tie.Need-returns
 returns c =
     agrees firstTest _ _ _ _ _ (c .digit .ensures) (unfold entries digits firstTest shape shapes kindsOf numberTest itemTest firstTestOf if_then_else_ in tt)
     (unfold firstTest in (ap (λ (s : Shape). firstTestOf (kindsOf s)) (shape-min (c .before .args .tag))))
 
 pub first-test-spec : {M : Type 1} → statement M
-first-test-spec = tie.close (tie.spec digit-requires returns)
+first-test-spec = tie.close (tie.spec (λ c κs. search needs) returns)

@@ -10,13 +10,10 @@ use Rattle.row_layout.proofs.Table.{agrees}
 use Rattle.row_layout.proofs.second_form.Statement.{statement}
 use Rattle.row_layout.proofs.second_form.Tie as tie
 
-digit-requires : tie.Need-digit-requires
-digit-requires c κs = search needs
-
 returns : tie.Need-returns
 returns c =
     agrees secondForm _ _ _ _ _ (c .digit .ensures) (unfold entries digits secondForm shape shapes kindsOf numberForm itemForm secondOf if_then_else_ in tt)
     (unfold secondForm in (ap (λ (s : Shape). secondOf (kindsOf s)) (shape-min (c .before .args .tag))))
 
 pub second-form-spec : {M : Type 1} → statement M
-second-form-spec = tie.close (tie.spec digit-requires returns)
+second-form-spec = tie.close (tie.spec (λ c κs. search needs) returns)

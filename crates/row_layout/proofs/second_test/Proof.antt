@@ -10,13 +10,11 @@ use Rattle.row_layout.proofs.Table.{agrees}
 use Rattle.row_layout.proofs.second_test.Statement.{statement}
 use Rattle.row_layout.proofs.second_test.Tie as tie
 
-digit-requires : tie.Need-digit-requires
-digit-requires c κs = search needs
-
 returns : tie.Need-returns
 returns c =
-    agrees secondTest _ _ _ _ _ (c .digit .ensures) (unfold entries digits secondTest shape shapes kindsOf numberTest itemTest firstTestOf secondTestOf if_then_else_ in tt)
+    agrees secondTest _ _ _ _ _ (c .digit .ensures)
+    (unfold entries digits secondTest shape shapes kindsOf numberTest itemTest firstTestOf secondTestOf if_then_else_ in tt)
     (unfold secondTest in (ap (λ (s : Shape). secondTestOf (kindsOf s)) (shape-min (c .before .args .tag))))
 
 pub second-test-spec : {M : Type 1} → statement M
-second-test-spec = tie.close (tie.spec digit-requires returns)
+second-test-spec = tie.close (tie.spec (λ c κs. search needs) returns)

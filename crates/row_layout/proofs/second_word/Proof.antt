@@ -11,13 +11,10 @@ use Rattle.row_layout.proofs.Table.{agrees}
 use Rattle.row_layout.proofs.second_word.Statement.{statement}
 use Rattle.row_layout.proofs.second_word.Tie as tie
 
-digit-requires : tie.Need-digit-requires
-digit-requires c κs = search needs
-
 returns : tie.Need-returns
 returns c =
     agrees secondWord _ _ _ _ _ (c .digit .ensures) (unfold entries digits secondWord shape shapes kindsOf afterFirst kindWidth if_then_else_ in tt)
     (unfold secondWord in (ap (λ (s : Shape). afterFirst (kindsOf s)) (shape-min (c .before .args .tag))))
 
 pub second-word-spec : {M : Type 1} → statement M
-second-word-spec = tie.close (tie.spec digit-requires returns)
+second-word-spec = tie.close (tie.spec (λ c κs. search needs) returns)

@@ -10,13 +10,10 @@ use Rattle.row_layout.proofs.Table.{agrees}
 use Rattle.row_layout.proofs.under_form.Statement.{statement}
 use Rattle.row_layout.proofs.under_form.Tie as tie
 
-digit-requires : tie.Need-digit-requires
-digit-requires c κs = search needs
-
 returns : tie.Need-returns
 returns c =
     agrees underForm _ _ _ _ _ (c .digit .ensures) (unfold entries digits underForm shape shapes kidsForm shapeForm if_then_else_ in tt)
     (unfold underForm in (ap (λ (s : Shape). shapeForm s) (shape-min (c .before .args .tag))))
 
 pub under-form-spec : {M : Type 1} → statement M
-under-form-spec = tie.close (tie.spec digit-requires returns)
+under-form-spec = tie.close (tie.spec (λ c κs. search needs) returns)

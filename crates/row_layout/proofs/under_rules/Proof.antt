@@ -10,13 +10,10 @@ use Rattle.row_layout.proofs.Table.{agrees}
 use Rattle.row_layout.proofs.under_rules.Statement.{statement}
 use Rattle.row_layout.proofs.under_rules.Tie as tie
 
-digit-requires : tie.Need-digit-requires
-digit-requires c κs = search needs
-
 returns : tie.Need-returns
 returns c =
     agrees underRules _ _ _ _ _ (c .digit .ensures) (unfold entries digits underRules shape shapes kidsRules shapeRules if_then_else_ in tt)
     (unfold underRules in (ap (λ (s : Shape). shapeRules s) (shape-min (c .before .args .tag))))
 
 pub under-rules-spec : {M : Type 1} → statement M
-under-rules-spec = tie.close (tie.spec digit-requires returns)
+under-rules-spec = tie.close (tie.spec (λ c κs. search needs) returns)

@@ -13,13 +13,11 @@ use Rattle.row_layout.proofs.Table.{agrees}
 use Rattle.row_layout.proofs.used_words.Statement.{statement}
 use Rattle.row_layout.proofs.used_words.Tie as tie
 
-digit-requires : tie.Need-digit-requires
-digit-requires c κs = search needs
-
 returns : tie.Need-returns
 returns c =
-    agrees usedWords _ _ _ _ _ (c .digit .ensures) (unfold entries digits usedWords shape shapes kindsOf kindWidth kindsWidth countWords kidsCountWords if_then_else_ in tt)
+    agrees usedWords _ _ _ _ _ (c .digit .ensures)
+    (unfold entries digits usedWords shape shapes kindsOf kindWidth kindsWidth countWords kidsCountWords if_then_else_ in tt)
     (unfold usedWords in (ap (λ (s : Shape). suc (kindsWidth (kindsOf s) + length (countWords s 0))) (shape-min (c .before .args .tag))))
 
 pub used-words-spec : {M : Type 1} → statement M
-used-words-spec = tie.close (tie.spec digit-requires returns)
+used-words-spec = tie.close (tie.spec (λ c κs. search needs) returns)

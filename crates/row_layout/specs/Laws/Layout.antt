@@ -46,6 +46,7 @@ shape-all f a b c d t = go (eqb t 32) refl (eqb t 33) refl (ltb t 27) refl
   where
     many : length shapes ≡ 27
     many = unfold shapes in refl
+
     go : (x : Bool) → eqb t 32 ≡ x → (y : Bool) → eqb t 33 ≡ y → (z : Bool) → ltb t 27 ≡ z → f t (shape t) ≡ true
     go true p y q z r = rw p (rw (eqb-true t 32 p) b)
     go false p true q z r = rw (p, q) (rw (eqb-true t 33 q) c)

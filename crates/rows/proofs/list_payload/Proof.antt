@@ -26,13 +26,16 @@ unfolding listedRows
 put-listing-requires c κs = omega arith
 
 returns : tie.Need-returns
-returns c = whole (c .before .before .before .before .before .args .out .now) (listed-long _ _ (c .before .before .before .if1 .taken)) (c .put-listing .ensures)
+returns c =
+    let args = c .before .before .before .before .before .args in
+    whole (args .out .now) (listed-long _ _ (c .before .before .before .if1 .taken)) (c .put-listing .ensures)
 
 put-listing-requires-2 : tie.Need-put-listing-requires-2
 unfolding capacitiesOf
 put-listing-requires-2 c κs =
-    let d = c .before .before .before .before .before .before .deserialize-payload in
-    let known = c .before .before .before .before .before .before .before .before .before .before .before .before .before in
+    let at-deserialize-payload = c .before .before .before .before .before .before in
+    let d = at-deserialize-payload .deserialize-payload in
+    let known = at-deserialize-payload .before .before .before .before .before .before .before in
     let bytes = known .before .args .bytes .now in
     let few = listed-rows (capacitiesOf 2560 2048 512 512) [] bytes (λ j. omega (arith, known .shared-slice-known .given j)) in
     let h : listedRows (d .result) ≤ 512 = rw (d .ensures .answer) few in
@@ -41,8 +44,9 @@ put-listing-requires-2 c κs =
 returns-2 : tie.Need-returns-2
 unfolding tableReading
 returns-2 c =
-    let d = c .before .before .before .before .before .before .before .deserialize-payload in
-    let test = c .before .before .before .before .before .before .before .before .before .before .before .before .before in
+    let at-deserialize-payload = c .before .before .before .before .before .before .before in
+    let d = at-deserialize-payload .deserialize-payload in
+    let test = at-deserialize-payload .before .before .before .before .before .before in
     let s = test .before .before in
     whole (s .args .out .now) (listed-read (s .args .bytes .now) (test .if1 .left) (d .ensures)) (c .put-listing2 .ensures)
 

@@ -33,7 +33,9 @@ returns c = found (c .before) (c .match .keys1)
 
 returns-2 : tie.Need-returns-2
 unfolding constOf
-returns-2 c = ap (λ (z : ℤ). Value (Int z)) (toZ-ofZ {w = w64} {z = c .from-word .result} (record { sfits = c .from-word .ok }) ∙ c .from-word .ensures) ∙ found (c .before .before) (c .before .match .keys2)
+returns-2 c =
+    ap (λ (z : ℤ). Value (Int z)) (toZ-ofZ {w = w64} {z = c .from-word .result} (record { sfits = c .from-word .ok }) ∙ c .from-word .ensures)
+    ∙ found (c .before .before) (c .before .match .keys2)
 
 returns-3 : tie.Need-returns-3
 unfolding constOf
@@ -57,7 +59,10 @@ returns-7 c = found (c .before) (c .match .keys7)
 
 returns-8 : tie.Need-returns-8
 unfolding constOf
-returns-8 c = ap (λ (z : ℤ). Value (SInt z)) (cut-cast w32 tt (lit≤ tt) refl (c .before .before .before .args .a) (c .from-word2 .ensures) (c .before .cut-i32 .ensures)) ∙ found (c .before .before .before) (c .before .before .match .keys8)
+returns-8 c =
+    let start = c .before .before .before in
+    ap (λ (z : ℤ). Value (SInt z)) (cut-cast w32 tt (lit≤ tt) refl (start .args .a) (c .from-word2 .ensures) (c .before .cut-i32 .ensures))
+    ∙ found start (c .before .before .match .keys8)
 
 returns-9 : tie.Need-returns-9
 unfolding constOf
@@ -69,11 +74,17 @@ returns-10 c = found (c .before) (c .match .keys10)
 
 returns-11 : tie.Need-returns-11
 unfolding constOf
-returns-11 c = ap (λ (z : ℤ). Value (BSByte z)) (cut-cast w16 tt (lit≤ tt) refl (c .before .before .before .args .a) (c .from-word3 .ensures) (c .before .cut-i16 .ensures)) ∙ found (c .before .before .before) (c .before .before .match .keys11)
+returns-11 c =
+    let start = c .before .before .before in
+    ap (λ (z : ℤ). Value (BSByte z)) (cut-cast w16 tt (lit≤ tt) refl (start .args .a) (c .from-word3 .ensures) (c .before .cut-i16 .ensures))
+    ∙ found start (c .before .before .match .keys11)
 
 returns-12 : tie.Need-returns-12
 unfolding constOf
-returns-12 c = ap (λ (z : ℤ). Value (SByte z)) (cut-cast w8 tt (lit≤ tt) refl (c .before .before .before .args .a) (c .from-word4 .ensures) (c .before .cut-i8 .ensures)) ∙ found (c .before .before .before) (c .before .before .match .keys12)
+returns-12 c =
+    let start = c .before .before .before in
+    ap (λ (z : ℤ). Value (SByte z)) (cut-cast w8 tt (lit≤ tt) refl (start .args .a) (c .from-word4 .ensures) (c .before .cut-i8 .ensures))
+    ∙ found start (c .before .before .match .keys12)
 
 returns-13 : tie.Need-returns-13
 unfolding constOf
@@ -85,7 +96,25 @@ returns-14 c = found (c .before) (c .match .keys14)
 
 returns-15 : tie.Need-returns-15
 unfolding constOf
-returns-15 c = let t = c .before .args .t in let no = c .match .rest in simp (ne-eqb t 26 (no .1), ne-eqb t 25 (no .0 .1), ne-eqb t 24 (no .0 .0 .1), ne-eqb t 23 (no .0 .0 .0 .1), ne-eqb t 22 (no .0 .0 .0 .0 .1), ne-eqb t 21 (no .0 .0 .0 .0 .0 .1), ne-eqb t 20 (no .0 .0 .0 .0 .0 .0 .1), ne-eqb t 19 (no .0 .0 .0 .0 .0 .0 .0 .1), ne-eqb t 5 (no .0 .0 .0 .0 .0 .0 .0 .0 .1), ne-eqb t 4 (no .0 .0 .0 .0 .0 .0 .0 .0 .0 .1), ne-eqb t 3 (no .0 .0 .0 .0 .0 .0 .0 .0 .0 .0 .1), ne-eqb t 2 (no .0 .0 .0 .0 .0 .0 .0 .0 .0 .0 .0 .1), ne-eqb t 1 (no .0 .0 .0 .0 .0 .0 .0 .0 .0 .0 .0 .0 .1), ne-eqb t 0 (no .0 .0 .0 .0 .0 .0 .0 .0 .0 .0 .0 .0 .0 .1))
+returns-15 c =
+    let t = c .before .args .t in
+    let no = c .match .rest in
+    simp (
+      ne-eqb t 26 (no .1),
+      ne-eqb t 25 (no .0 .1),
+      ne-eqb t 24 (no .0 .0 .1),
+      ne-eqb t 23 (no .0 .0 .0 .1),
+      ne-eqb t 22 (no .0 .0 .0 .0 .1),
+      ne-eqb t 21 (no .0 .0 .0 .0 .0 .1),
+      ne-eqb t 20 (no .0 .0 .0 .0 .0 .0 .1),
+      ne-eqb t 19 (no .0 .0 .0 .0 .0 .0 .0 .1),
+      ne-eqb t 5 (no .0 .0 .0 .0 .0 .0 .0 .0 .1),
+      ne-eqb t 4 (no .0 .0 .0 .0 .0 .0 .0 .0 .0 .1),
+      ne-eqb t 3 (no .0 .0 .0 .0 .0 .0 .0 .0 .0 .0 .1),
+      ne-eqb t 2 (no .0 .0 .0 .0 .0 .0 .0 .0 .0 .0 .0 .1),
+      ne-eqb t 1 (no .0 .0 .0 .0 .0 .0 .0 .0 .0 .0 .0 .0 .1),
+      ne-eqb t 0 (no .0 .0 .0 .0 .0 .0 .0 .0 .0 .0 .0 .0 .0 .1),
+    )
 
 pub const-of-spec : {M : Type 1} → statement M
 const-of-spec =

@@ -12,15 +12,21 @@ found s e = ap rowOf (sym e)
 
 returns : tie.Need-returns
 unfolding rowOf
-returns c = c .words-of .ensures ∙ found (c .before .before .before .before) (c .before .before .c .given .1)
+returns c =
+    let start = c .before .before .before .before in
+    c .words-of .ensures ∙ found start (c .before .before .c .given .1)
 
 returns-2 : tie.Need-returns-2
 unfolding rowOf
-returns-2 c = c .row .ensures ∙ found (c .before .before .before .before) (c .before .before .c2 .given .1)
+returns-2 c =
+    let start = c .before .before .before .before in
+    c .row .ensures ∙ found start (c .before .before .c2 .given .1)
 
 returns-3 : tie.Need-returns-3
 unfolding rowOf
-returns-3 c = c .row2 .ensures ∙ found (c .before .before .before .before) (c .before .before .c3 .given .1)
+returns-3 c =
+    let start = c .before .before .before .before in
+    c .row2 .ensures ∙ found start (c .before .before .c3 .given .1)
 
 returns-4 : tie.Need-returns-4
 unfolding rowOf

@@ -39,55 +39,98 @@ returns c = c .row .ensures ∙ found (c .before .before .before) (c .before .en
 
 returns-2 : tie.Need-returns-2
 unfolding wordsOf
-returns-2 c = c .row2 .ensures ∙ one-word 1 (c .before .to-word .ensures ∙ ap wordOf (toZ-ofZ {w = w64} {z = c .before .before .before .s .given .0 .0} (record { sfits = c .before .before .known-told .given .0 .1 }))) ∙ found (c .before .before .before .before .before) (c .before .before .before .s .given .1)
+returns-2 c =
+    let s = c .before .before .before .s in
+    let start = c .before .before .before .before .before in
+    c .row2 .ensures
+    ∙ one-word 1
+    (c .before .to-word .ensures ∙ ap wordOf (toZ-ofZ {w = w64} {z = s .given .0 .0} (record { sfits = c .before .before .known-told .given .0 .1 })))
+    ∙ found start (s .given .1)
 
 returns-3 : tie.Need-returns-3
 unfolding wordsOf
-returns-3 c = c .row3 .ensures ∙ one-word 2 (c .before .bits-of-f64 .ensures) ∙ found (c .before .before .before .before .before) (c .before .before .before .s2 .given .1)
+returns-3 c =
+    let start = c .before .before .before .before .before in
+    c .row3 .ensures ∙ one-word 2 (c .before .bits-of-f64 .ensures) ∙ found start (c .before .before .before .s2 .given .1)
 
 returns-4 : tie.Need-returns-4
 unfolding wordsOf
-returns-4 c = c .row4 .ensures ∙ one-word 3 (bit (c .before .before .s3 .given .0 .0)) ∙ found (c .before .before .before .before) (c .before .before .s3 .given .1)
+returns-4 c =
+    let s3 = c .before .before .s3 in
+    let start = c .before .before .before .before in
+    c .row4 .ensures ∙ one-word 3 (bit (s3 .given .0 .0)) ∙ found start (s3 .given .1)
 
 returns-5 : tie.Need-returns-5
 unfolding wordsOf
-returns-5 c = c .row5 .ensures ∙ found (c .before .before .before .before) (c .before .before .s4 .given .1)
+returns-5 c =
+    let start = c .before .before .before .before in
+    c .row5 .ensures ∙ found start (c .before .before .s4 .given .1)
 
 returns-6 : tie.Need-returns-6
 unfolding wordsOf
-returns-6 c = c .row6 .ensures ∙ found (c .before .before .before .before) (c .before .before .s5 .given .1)
+returns-6 c =
+    let start = c .before .before .before .before in
+    c .row6 .ensures ∙ found start (c .before .before .s5 .given .1)
 
 returns-7 : tie.Need-returns-7
 unfolding wordsOf
-returns-7 c = c .row7 .ensures ∙ found (c .before .before .before .before) (c .before .before .s6 .given .1)
+returns-7 c =
+    let start = c .before .before .before .before in
+    c .row7 .ensures ∙ found start (c .before .before .s6 .given .1)
 
 returns-8 : tie.Need-returns-8
 unfolding wordsOf
-returns-8 c = c .row8 .ensures ∙ one-word 20 (c .before .to-word2 .ensures ∙ ap wordOf (widened {w = w32} {z = c .before .before .before .s7 .given .0 .0} tt (record { sfits = c .before .before .known-told7 .given .0 .1 }))) ∙ found (c .before .before .before .before .before) (c .before .before .before .s7 .given .1)
+returns-8 c =
+    let s7 = c .before .before .before .s7 in
+    let start = c .before .before .before .before .before in
+    c .row8 .ensures
+    ∙ one-word 20
+    (c .before .to-word2 .ensures ∙ ap wordOf (widened {w = w32} {z = s7 .given .0 .0} tt (record { sfits = c .before .before .known-told7 .given .0 .1 })))
+    ∙ found start (s7 .given .1)
 
 returns-9 : tie.Need-returns-9
 unfolding wordsOf
-returns-9 c = c .row9 .ensures ∙ found (c .before .before .before .before) (c .before .before .s8 .given .1)
+returns-9 c =
+    let start = c .before .before .before .before in
+    c .row9 .ensures ∙ found start (c .before .before .s8 .given .1)
 
 returns-10 : tie.Need-returns-10
 unfolding wordsOf
-returns-10 c = c .row10 .ensures ∙ found (c .before .before .before .before) (c .before .before .s9 .given .1)
+returns-10 c =
+    let start = c .before .before .before .before in
+    c .row10 .ensures ∙ found start (c .before .before .s9 .given .1)
 
 returns-11 : tie.Need-returns-11
 unfolding wordsOf
-returns-11 c = c .row11 .ensures ∙ one-word 23 (c .before .to-word3 .ensures ∙ ap wordOf (widened {w = w16} {z = c .before .before .before .s10 .given .0 .0} tt (record { sfits = c .before .before .known-told10 .given .0 .1 }))) ∙ found (c .before .before .before .before .before) (c .before .before .before .s10 .given .1)
+returns-11 c =
+    let s10 = c .before .before .before .s10 in
+    let start = c .before .before .before .before .before in
+    c .row11 .ensures
+    ∙ one-word 23
+    (c .before .to-word3 .ensures ∙ ap wordOf (widened {w = w16} {z = s10 .given .0 .0} tt (record { sfits = c .before .before .known-told10 .given .0 .1 })))
+    ∙ found start (s10 .given .1)
 
 returns-12 : tie.Need-returns-12
 unfolding wordsOf
-returns-12 c = c .row12 .ensures ∙ one-word 24 (c .before .to-word4 .ensures ∙ ap wordOf (widened {w = w8} {z = c .before .before .before .s11 .given .0 .0} tt (record { sfits = c .before .before .known-told11 .given .0 .1 }))) ∙ found (c .before .before .before .before .before) (c .before .before .before .s11 .given .1)
+returns-12 c =
+    let s11 = c .before .before .before .s11 in
+    let start = c .before .before .before .before .before in
+    c .row12 .ensures
+    ∙ one-word 24
+    (c .before .to-word4 .ensures ∙ ap wordOf (widened {w = w8} {z = s11 .given .0 .0} tt (record { sfits = c .before .before .known-told11 .given .0 .1 })))
+    ∙ found start (s11 .given .1)
 
 returns-13 : tie.Need-returns-13
 unfolding wordsOf
-returns-13 c = c .row13 .ensures ∙ one-word 25 (c .before .bits-of-f32 .ensures) ∙ found (c .before .before .before .before .before) (c .before .before .before .s12 .given .1)
+returns-13 c =
+    let start = c .before .before .before .before .before in
+    c .row13 .ensures ∙ one-word 25 (c .before .bits-of-f32 .ensures) ∙ found start (c .before .before .before .s12 .given .1)
 
 returns-14 : tie.Need-returns-14
 unfolding wordsOf
-returns-14 c = c .row14 .ensures ∙ found (c .before .before .before .before) (c .before .before .s13 .given .1)
+returns-14 c =
+    let start = c .before .before .before .before in
+    c .row14 .ensures ∙ found start (c .before .before .s13 .given .1)
 
 pub words-of-spec : {M : Type 1} → statement M
 words-of-spec =

@@ -19,4 +19,7 @@ mod Value
 mod Values
 
 pub +scan-entries+scan-fields+scan-template+scan-under+scan-untagged+scan-value+scan-values-spec : {M : Type 1} → statement M
-+scan-entries+scan-fields+scan-template+scan-under+scan-untagged+scan-value+scan-values-spec {M} = close μ-scan-entries μ-scan-fields μ-scan-template μ-scan-under μ-scan-untagged μ-scan-value μ-scan-values (scan-entries-meets {M = M}) (scan-fields-meets {M = M}) (scan-template-meets {M = M}) (scan-under-meets {M = M}) (scan-untagged-meets {M = M}) (scan-value-meets {M = M}) (scan-values-meets {M = M})
++scan-entries+scan-fields+scan-template+scan-under+scan-untagged+scan-value+scan-values-spec {M} =
+    close μ-scan-entries μ-scan-fields μ-scan-template μ-scan-under μ-scan-untagged μ-scan-value μ-scan-values (scan-entries-meets {M = M})
+    (scan-fields-meets {M = M}) (scan-template-meets {M = M}) (scan-under-meets {M = M}) (scan-untagged-meets {M = M}) (scan-value-meets {M = M})
+    (scan-values-meets {M = M})

@@ -15,17 +15,8 @@ abbrev μ-loop : tie.MeasureT-loop
 loop-holds : tie.Need-loop-holds Inv-loop μ-loop
 loop-holds c = covered-start
 
-code-length-requires : tie.Need-code-length-requires Inv-loop μ-loop
-code-length-requires c κs = search needs
-
 returns : tie.Need-returns Inv-loop μ-loop
 returns c = covered-short (c .before .before .before .loop .inv) (c .before .before .loop-test .taken) (c .before .code-length .ensures) (c .if1 .taken)
-
-add-i : tie.Need-add-i Inv-loop μ-loop
-add-i c = search needs
-
-loop-less : tie.Need-loop-less Inv-loop μ-loop
-loop-less c = search needs
 
 loop-again : tie.Need-loop-again Inv-loop μ-loop
 loop-again c = covered-next (c .before .before .before .loop .inv) (c .before .before .loop-test .taken) (c .before .code-length .ensures) (c .if1 .left)
@@ -40,9 +31,9 @@ code-is-spec =
     Inv-loop
     μ-loop
     loop-holds
-    code-length-requires
+    (λ c κs. search needs)
     returns
-    add-i
-    loop-less
+    (λ c. search needs)
+    (λ c. search needs)
     loop-again
     returns-2)

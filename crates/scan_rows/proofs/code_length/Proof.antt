@@ -8,19 +8,17 @@ use Rattle.scan_rows.specs.Row.{tagAt}
 use Rattle.scan_rows.proofs.code_length.Statement.{statement}
 use Rattle.scan_rows.proofs.code_length.Tie as tie
 
-word-at-requires : tie.Need-word-at-requires
-word-at-requires c κs = search needs
-
-word-at-requires-2 : tie.Need-word-at-requires-2
-word-at-requires-2 c κs = search needs
-
 returns : tie.Need-returns
 unfolding codeAt if_then_else_
-returns c = rw (eq-eqb (tagAt (c .before .before .before .before .args .rows .now) (c .before .before .before .before .args .i)) 32 (sym (c .before .before .word-at .ensures .0) ∙ c .before .if1 .taken)) (c .word-at2 .ensures .0)
+returns c =
+    let args = c .before .before .before .before .args in
+    rw (eq-eqb (tagAt (args .rows .now) (args .i)) 32 (sym (c .before .before .word-at .ensures .0) ∙ c .before .if1 .taken)) (c .word-at2 .ensures .0)
 
 returns-2 : tie.Need-returns-2
 unfolding codeAt if_then_else_
-returns-2 c = rw (ne-eqb (tagAt (c .before .before .before .args .rows .now) (c .before .before .before .args .i)) 32 (λ e. c .if1 .left (c .before .word-at .ensures .0 ∙ e)))
+returns-2 c =
+    let args = c .before .before .before .args in
+    rw (ne-eqb (tagAt (args .rows .now) (args .i)) 32 (λ e. c .if1 .left (c .before .word-at .ensures .0 ∙ e)))
 
 pub code-length-spec : {M : Type 1} → statement M
-code-length-spec = tie.close (tie.spec word-at-requires word-at-requires-2 returns returns-2)
+code-length-spec = tie.close (tie.spec (λ c κs. search needs) (λ c κs. search needs) returns returns-2)

@@ -8,9 +8,6 @@ use Rattle.scan_rows.specs.Row.{isTagged, headFits}
 use Rattle.scan_rows.proofs.head_fits.Statement.{statement}
 use Rattle.scan_rows.proofs.head_fits.Tie as tie
 
-is-tagged-requires : tie.Need-is-tagged-requires
-is-tagged-requires c κs = search needs
-
 returns : tie.Need-returns
 unfolding headFits _and_
 returns c = rw (sym (c .before .is-tagged .ensures) ∙ not-true _ (c .if1 .taken))
@@ -24,4 +21,4 @@ unfolding headFits _and_
 returns-2 c = rw (sym (c .before .before .is-tagged .ensures) ∙ not-false _ (c .before .if1 .left)) (c .row-fits .ensures)
 
 pub head-fits-spec : {M : Type 1} → statement M
-head-fits-spec = tie.close (tie.spec is-tagged-requires returns row-fits-requires returns-2)
+head-fits-spec = tie.close (tie.spec (λ c κs. search needs) returns row-fits-requires returns-2)

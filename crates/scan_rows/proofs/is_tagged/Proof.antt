@@ -11,14 +11,15 @@ use Rattle.scan_rows.proofs.is_tagged.Tie as tie
 
 returns : tie.Need-returns
 unfolding isTagged _and_
-returns c = rw (le-ltb (c .before .before .args .i) (rowCount (c .before .before .args .rows .now)) (c .if1 .taken))
-
-word-at-requires : tie.Need-word-at-requires
-word-at-requires c κs = search needs
+returns c =
+    let args = c .before .before .args in
+    rw (le-ltb (args .i) (rowCount (args .rows .now)) (c .if1 .taken))
 
 returns-2 : tie.Need-returns-2
 unfolding isTagged _and_
-returns-2 c = rw (lt-ltb (c .before .before .before .args .i) (rowCount (c .before .before .before .args .rows .now)) (c .before .if1 .left)) (ap (λ (w : ℕ). eqb w (c .before .before .before .args .tag)) (c .word-at .ensures .0))
+returns-2 c =
+    let args = c .before .before .before .args in
+    rw (lt-ltb (args .i) (rowCount (args .rows .now)) (c .before .if1 .left)) (ap (λ (w : ℕ). eqb w (args .tag)) (c .word-at .ensures .0))
 
 pub is-tagged-spec : {M : Type 1} → statement M
-is-tagged-spec = tie.close (tie.spec returns word-at-requires returns-2)
+is-tagged-spec = tie.close (tie.spec returns (λ c κs. search needs) returns-2)

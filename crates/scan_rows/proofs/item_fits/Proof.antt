@@ -6,34 +6,29 @@ use Rattle.scan_rows.specs.Fits.{wordsFit}
 use Rattle.scan_rows.proofs.item_fits.Statement.{statement}
 use Rattle.scan_rows.proofs.item_fits.Tie as tie
 
-part-is-utf8-requires : tie.Need-part-is-utf8-requires
-part-is-utf8-requires c κs = search needs
-
 returns : tie.Need-returns
 unfolding wordsFit if_then_else_
 returns c = rw (eq-eqb (c .before .before .before .args .test) 11 (c .before .if1 .taken)) (c .part-is-utf8 .ensures)
 
-part-fits-requires : tie.Need-part-fits-requires
-part-fits-requires c κs = search needs
-
 returns-2 : tie.Need-returns-2
 unfolding wordsFit if_then_else_
-returns-2 c = rw (ne-eqb (c .before .before .before .before .args .test) 11 (c .before .before .if1 .left), eq-eqb (c .before .before .before .before .args .test) 12 (c .before .if2 .taken)) (c .part-fits .ensures)
-
-number-fits-requires : tie.Need-number-fits-requires
-number-fits-requires c κs = search needs
+returns-2 c =
+    let args = c .before .before .before .before .args in
+    rw (ne-eqb (args .test) 11 (c .before .before .if1 .left), eq-eqb (args .test) 12 (c .before .if2 .taken)) (c .part-fits .ensures)
 
 returns-3 : tie.Need-returns-3
 unfolding wordsFit if_then_else_
-returns-3 c = rw (ne-eqb (c .before .before .before .before .args .test) 11 (c .before .before .if1 .left), ne-eqb (c .before .before .before .before .args .test) 12 (c .before .if2 .left)) (c .number-fits .ensures)
+returns-3 c =
+    let args = c .before .before .before .before .args in
+    rw (ne-eqb (args .test) 11 (c .before .before .if1 .left), ne-eqb (args .test) 12 (c .before .if2 .left)) (c .number-fits .ensures)
 
 pub item-fits-spec : {M : Type 1} → statement M
 item-fits-spec =
     tie.close
     (tie.spec
-    part-is-utf8-requires
+    (λ c κs. search needs)
     returns
-    part-fits-requires
+    (λ c κs. search needs)
     returns-2
-    number-fits-requires
+    (λ c κs. search needs)
     returns-3)

@@ -17,22 +17,53 @@ loop-holds : tie.Need-loop-holds Inv-loop μ-loop
 loop-holds c = search-start (c .before .before .pre .0)
 
 same-key-requires : tie.Need-same-key-requires Inv-loop μ-loop
-same-key-requires c κs = ((search-row (c .before .before .before .before .pre .0) (c .before .before .before .before .pre .1 .1 .0) (c .before .before .before .before .pre .1 .1 .1) (c .before .loop .inv) (c .loop-test .taken)) .0, c .before .before .before .before .pre .1 .0)
+same-key-requires c κs =
+    let pre = c .before .before .before .before .pre in
+    ((search-row (pre .0) (pre .1 .1 .0) (pre .1 .1 .1) (c .before .loop .inv) (c .loop-test .taken)) .0, pre .1 .0)
 
 returns : tie.Need-returns Inv-loop μ-loop
-returns c = search-found (c .before .before .before .before .before .before .pre .0) (c .before .before .loop-test .taken) (c .before .before .before .loop .inv) (sym (c .before .same-key .ensures) ∙ c .if1 .taken)
+returns c =
+    let pre = c .before .before .before .before .before .before .pre in
+    search-found (pre .0) (c .before .before .loop-test .taken) (c .before .before .before .loop .inv) (sym (c .before .same-key .ensures) ∙ c .if1 .taken)
 
 row-after-requires : tie.Need-row-after-requires Inv-loop μ-loop
-row-after-requires c κs = (omega (arith, key-in (c .before .before .before .before .before .before .args .store .now) (c .before .before .before .before .before .before .args .rows .now) (c .before .before .before .before .before .before .args .i) (c .before .before .before .before .before .before .pre .1 .0), c .before .before .loop-test .taken), ((search-row (c .before .before .before .before .before .before .pre .0) (c .before .before .before .before .before .before .pre .1 .1 .0) (c .before .before .before .before .before .before .pre .1 .1 .1) (c .before .before .before .loop .inv) (c .before .before .loop-test .taken)) .1, (search-row (c .before .before .before .before .before .before .pre .0) (c .before .before .before .before .before .before .pre .1 .1 .0) (c .before .before .before .before .before .before .pre .1 .1 .1) (c .before .before .before .loop .inv) (c .before .before .loop-test .taken)) .2))
+row-after-requires c κs =
+    let loop-test = c .before .before .loop-test in
+    let loop = c .before .before .before .loop in
+    let start = c .before .before .before .before .before .before in (
+      omega (arith, key-in (start .args .store .now) (start .args .rows .now) (start .args .i) (start .pre .1 .0), loop-test .taken),
+      (
+        (search-row (start .pre .0) (start .pre .1 .1 .0) (start .pre .1 .1 .1) (loop .inv) (loop-test .taken)) .1,
+        (search-row (start .pre .0) (start .pre .1 .1 .0) (start .pre .1 .1 .1) (loop .inv) (loop-test .taken)) .2,
+      ),
+    )
 
 loop-less : tie.Need-loop-less Inv-loop μ-loop
-loop-less c = omega (arith, c .row-after .ensures ((search-row (c .before .before .before .before .before .before .before .pre .0) (c .before .before .before .before .before .before .before .pre .1 .1 .0) (c .before .before .before .before .before .before .before .pre .1 .1 .1) (c .before .before .before .before .loop .inv) (c .before .before .before .loop-test .taken)) .1) ((search-row (c .before .before .before .before .before .before .before .pre .0) (c .before .before .before .before .before .before .before .pre .1 .1 .0) (c .before .before .before .before .before .before .before .pre .1 .1 .1) (c .before .before .before .before .loop .inv) (c .before .before .before .loop-test .taken)) .2), skip-far ((search-row (c .before .before .before .before .before .before .before .pre .0) (c .before .before .before .before .before .before .before .pre .1 .1 .0) (c .before .before .before .before .before .before .before .pre .1 .1 .1) (c .before .before .before .before .loop .inv) (c .before .before .before .loop-test .taken)) .2), c .before .before .before .before .before .before .before .pre .0, c .before .before .before .loop-test .taken)
+loop-less c =
+    let loop-test = c .before .before .before .loop-test in
+    let at-loop = c .before .before .before .before in
+    let loop = at-loop .loop in
+    let pre = at-loop .before .before .before .pre in
+    omega (
+      arith,
+      c .row-after .ensures ((search-row (pre .0) (pre .1 .1 .0) (pre .1 .1 .1) (loop .inv) (loop-test .taken)) .1)
+          ((search-row (pre .0) (pre .1 .1 .0) (pre .1 .1 .1) (loop .inv) (loop-test .taken)) .2),
+      skip-far ((search-row (pre .0) (pre .1 .1 .0) (pre .1 .1 .1) (loop .inv) (loop-test .taken)) .2),
+      pre .0,
+      loop-test .taken,
+    )
 
 loop-again : tie.Need-loop-again Inv-loop μ-loop
-loop-again c = search-next (c .before .before .before .before .before .before .before .pre .0) (c .before .before .before .loop-test .taken) (c .before .before .before .before .loop .inv) (sym (c .before .before .same-key .ensures) ∙ c .before .if1 .left) (c .row-after .ensures)
+loop-again c =
+    let at-loop = c .before .before .before .before in
+    let pre = at-loop .before .before .before .pre in
+    search-next (pre .0) (c .before .before .before .loop-test .taken) (at-loop .loop .inv) (sym (c .before .before .same-key .ensures) ∙ c .before .if1 .left)
+    (c .row-after .ensures)
 
 returns-2 : tie.Need-returns-2 Inv-loop μ-loop
-returns-2 c = search-end (c .before .before .before .before .pre .0) (c .loop-test .left) (c .before .loop .inv)
+returns-2 c =
+    let pre = c .before .before .before .before .pre in
+    search-end (pre .0) (c .loop-test .left) (c .before .loop .inv)
 
 pub key-seen-spec : {M : Type 1} → statement M
 key-seen-spec =

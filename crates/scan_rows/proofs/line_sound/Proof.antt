@@ -10,24 +10,26 @@ use Rattle.scan_rows.proofs.line_sound.Statement.{statement}
 use Rattle.scan_rows.proofs.line_sound.Tie as tie
 
 returns : tie.Need-returns
-returns c = no-line (tables (c .before .before .before .args .store .now) [] [] (c .before .before .before .args .starts .now) (c .before .before .before .args .flag) (c .before .before .before .args .name-o) (c .before .before .before .args .name-n)) (c .if1 .taken)
+returns c =
+    let args = c .before .before .before .args in
+    no-line (tables (args .store .now) [] [] (args .starts .now) (args .flag) (args .name-o) (args .name-n)) (c .if1 .taken)
 
 returns-2 : tie.Need-returns-2
-returns-2 c = sym (bad-flag (tables (c .before .before .before .before .args .store .now) [] [] (c .before .before .before .before .args .starts .now) (c .before .before .before .before .args .flag) (c .before .before .before .before .args .name-o) (c .before .before .before .before .args .name-n)) (c .before .if1 .left) (c .if2 .taken))
-
-starts-fit-requires : tie.Need-starts-fit-requires
-starts-fit-requires c κs = search needs
+returns-2 c =
+    let args = c .before .before .before .before .args in
+    sym (bad-flag (tables (args .store .now) [] [] (args .starts .now) (args .flag) (args .name-o) (args .name-n)) (c .before .if1 .left) (c .if2 .taken))
 
 returns-3 : tie.Need-returns-3
 returns-3 c = false≢true (sym (not-true _ (c .if3 .taken)) ∙ c .before .starts-fit .ensures .0)
 
-part-is-utf8-requires : tie.Need-part-is-utf8-requires
-part-is-utf8-requires c κs = search needs
-
 returns-4 : tie.Need-returns-4
-returns-4 c = c .part-is-utf8 .ensures ∙ a-line (tables (c .before .before .before .before .before .before .before .args .store .now) [] [] (c .before .before .before .before .before .before .before .args .starts .now) (c .before .before .before .before .before .before .before .args .flag) (c .before .before .before .before .before .before .before .args .name-o) (c .before .before .before .before .before .before .before .args .name-n)) (c .before .before .before .if2 .left) (c .before .before .starts-fit .ensures .1)
+returns-4 c =
+    let args = c .before .before .before .before .before .before .before .args in
+    c .part-is-utf8 .ensures
+    ∙ a-line (tables (args .store .now) [] [] (args .starts .now) (args .flag) (args .name-o) (args .name-n)) (c .before .before .before .if2 .left)
+    (c .before .before .starts-fit .ensures .1)
 
 pub line-sound-spec : {M : Type 1} → statement M
 line-sound-spec =
     tie.close
-    (tie.spec returns returns-2 starts-fit-requires returns-3 part-is-utf8-requires returns-4)
+    (tie.spec returns returns-2 (λ c κs. search needs) returns-3 (λ c κs. search needs) returns-4)

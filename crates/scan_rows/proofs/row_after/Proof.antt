@@ -17,19 +17,24 @@ loop-holds : tie.Need-loop-holds Inv-loop μ-loop
 loop-holds c = record { rest = λ j s. s }
 
 rows-under-requires : tie.Need-rows-under-requires Inv-loop μ-loop
-rows-under-requires c κs = let h = (left-room (c .before .loop .inv) (c .before .before .before .pre .1 .0) (c .before .before .before .pre .1 .1) (c .before .before .before .pre .0) (c .loop-test .taken)) in (h .0, omega (arith, h .1))
-
-sub-pending : tie.Need-sub-pending Inv-loop μ-loop
-sub-pending c = search needs
+rows-under-requires c κs =
+    let pre = c .before .before .before .pre in
+    let h = (left-room (c .before .loop .inv) (pre .1 .0) (pre .1 .1) (pre .0) (c .loop-test .taken)) in (h .0, omega (arith, h .1))
 
 add-pending : tie.Need-add-pending Inv-loop μ-loop
-add-pending c = omega (arith, (left-room (c .before .before .loop .inv) (c .before .before .before .before .pre .1 .0) (c .before .before .before .before .pre .1 .1) (c .before .before .before .before .pre .0) (c .before .loop-test .taken)) .1, c .rows-under .ensures)
+add-pending c =
+    let pre = c .before .before .before .before .pre in
+    omega (arith, (left-room (c .before .before .loop .inv) (pre .1 .0) (pre .1 .1) (pre .0) (c .before .loop-test .taken)) .1, c .rows-under .ensures)
 
 add-at : tie.Need-add-at Inv-loop μ-loop
-add-at c = omega (arith, (left-room (c .before .before .loop .inv) (c .before .before .before .before .pre .1 .0) (c .before .before .before .before .pre .1 .1) (c .before .before .before .before .pre .0) (c .before .loop-test .taken)) .0)
+add-at c =
+    let pre = c .before .before .before .before .pre in
+    omega (arith, (left-room (c .before .before .loop .inv) (pre .1 .0) (pre .1 .1) (pre .0) (c .before .loop-test .taken)) .0)
 
 loop-less : tie.Need-loop-less Inv-loop μ-loop
-loop-less c = omega (arith, (left-room (c .before .before .loop .inv) (c .before .before .before .before .pre .1 .0) (c .before .before .before .before .pre .1 .1) (c .before .before .before .before .pre .0) (c .before .loop-test .taken)) .0)
+loop-less c =
+    let pre = c .before .before .before .before .pre in
+    omega (arith, (left-room (c .before .before .loop .inv) (pre .1 .0) (pre .1 .1) (pre .0) (c .before .loop-test .taken)) .0)
 
 loop-again : tie.Need-loop-again Inv-loop μ-loop
 loop-again c = left-next (c .before .before .loop .inv) (c .before .loop-test .taken) (c .rows-under .ensures)
@@ -45,7 +50,7 @@ row-after-spec =
     μ-loop
     loop-holds
     rows-under-requires
-    sub-pending
+    (λ c. search needs)
     add-pending
     add-at
     loop-less

@@ -7,19 +7,13 @@ use Rattle.scan_rows.specs.Code.{spansFit}
 use Rattle.scan_rows.proofs.spans_fit.Statement.{statement}
 use Rattle.scan_rows.proofs.spans_fit.Tie as tie
 
-code-is-requires : tie.Need-code-is-requires
-code-is-requires c κs = search needs
-
 returns : tie.Need-returns
 unfolding spansFit _and_
 returns c = rw (sym (c .before .code-is .ensures) ∙ not-true _ (c .if1 .taken))
-
-spans-small-requires : tie.Need-spans-small-requires
-spans-small-requires c κs = search needs
 
 returns-2 : tie.Need-returns-2
 unfolding spansFit _and_
 returns-2 c = rw (sym (c .before .before .code-is .ensures) ∙ not-false _ (c .before .if1 .left)) (c .spans-small .ensures)
 
 pub spans-fit-spec : {M : Type 1} → statement M
-spans-fit-spec = tie.close (tie.spec code-is-requires returns spans-small-requires returns-2)
+spans-fit-spec = tie.close (tie.spec (λ c κs. search needs) returns (λ c κs. search needs) returns-2)

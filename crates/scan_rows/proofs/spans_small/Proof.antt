@@ -19,44 +19,33 @@ abbrev μ-loop : tie.MeasureT-loop
 loop-holds : tie.Need-loop-holds Inv-loop μ-loop
 loop-holds c = refl
 
-mul-if1 : tie.Need-mul-if1 Inv-loop μ-loop
-mul-if1 c = search needs
-
-mul-if1-2 : tie.Need-mul-if1-2 Inv-loop μ-loop
-mul-if1-2 c = search needs
-
-shared-slice-read-if1 : tie.Need-shared-slice-read-if1 Inv-loop μ-loop
-shared-slice-read-if1 c = search needs
-
 returns : tie.Need-returns Inv-loop μ-loop
-returns c = sym (c .before .before .before .loop .inv ∙ large-start (c .before .before .before .before .args .spans .now) (c .before .before .before .loop .i) (omega (arith, c .before .before .loop-test .taken, c .before .before .before .before .pre)) (c .if1 .taken))
-
-mul-if2 : tie.Need-mul-if2 Inv-loop μ-loop
-mul-if2 c = search needs
-
-add-if2 : tie.Need-add-if2 Inv-loop μ-loop
-add-if2 c = search needs
-
-mul-if2-2 : tie.Need-mul-if2-2 Inv-loop μ-loop
-mul-if2-2 c = search needs
-
-shared-slice-read-if2 : tie.Need-shared-slice-read-if2 Inv-loop μ-loop
-shared-slice-read-if2 c = search needs
+returns c =
+    let loop = c .before .before .before .loop in
+    let start = c .before .before .before .before in
+    sym (loop .inv ∙ large-start (start .args .spans .now) (loop .i) (omega (arith, c .before .before .loop-test .taken, start .pre)) (c .if1 .taken))
 
 returns-2 : tie.Need-returns-2 Inv-loop μ-loop
-returns-2 c = sym (c .before .before .before .before .before .loop .inv ∙ large-end (c .before .before .before .before .before .before .args .spans .now) (c .before .before .before .before .before .loop .i) (omega (arith, c .before .before .before .before .loop-test .taken, c .before .before .before .before .before .before .pre)) (c .before .before .if1 .left) (c .if2 .taken))
-
-add-i : tie.Need-add-i Inv-loop μ-loop
-add-i c = search needs
-
-loop-less : tie.Need-loop-less Inv-loop μ-loop
-loop-less c = search needs
+returns-2 c =
+    let at-loop-test = c .before .before .before .before in
+    let loop = at-loop-test .before .loop in
+    let start = at-loop-test .before .before in
+    sym
+    (loop .inv
+    ∙ large-end (start .args .spans .now) (loop .i) (omega (arith, at-loop-test .loop-test .taken, start .pre)) (c .before .before .if1 .left) (c .if2 .taken))
 
 loop-again : tie.Need-loop-again Inv-loop μ-loop
-loop-again c = c .before .before .before .before .before .loop .inv ∙ small-next (c .before .before .before .before .before .before .args .spans .now) (c .before .before .before .before .before .loop .i) (omega (arith, c .before .before .before .before .loop-test .taken, c .before .before .before .before .before .before .pre)) (c .before .before .if1 .left) (c .if2 .left)
+loop-again c =
+    let at-loop-test = c .before .before .before .before in
+    let loop = at-loop-test .before .loop in
+    let start = at-loop-test .before .before in
+    loop .inv
+    ∙ small-next (start .args .spans .now) (loop .i) (omega (arith, at-loop-test .loop-test .taken, start .pre)) (c .before .before .if1 .left) (c .if2 .left)
 
 returns-3 : tie.Need-returns-3 Inv-loop μ-loop
-returns-3 c = sym (c .before .loop .inv ∙ small-end (c .before .before .args .spans .now) (c .before .loop .i) (omega (arith, c .loop-test .left, c .before .before .pre)))
+returns-3 c =
+    let start = c .before .before in
+    sym (c .before .loop .inv ∙ small-end (start .args .spans .now) (c .before .loop .i) (omega (arith, c .loop-test .left, start .pre)))
 
 pub spans-small-spec : {M : Type 1} → statement M
 spans-small-spec =
@@ -65,16 +54,16 @@ spans-small-spec =
     Inv-loop
     μ-loop
     loop-holds
-    mul-if1
-    mul-if1-2
-    shared-slice-read-if1
+    (λ c. search needs)
+    (λ c. search needs)
+    (λ c. search needs)
     returns
-    mul-if2
-    add-if2
-    mul-if2-2
-    shared-slice-read-if2
+    (λ c. search needs)
+    (λ c. search needs)
+    (λ c. search needs)
+    (λ c. search needs)
     returns-2
-    add-i
-    loop-less
+    (λ c. search needs)
+    (λ c. search needs)
     loop-again
     returns-3)

@@ -10,14 +10,12 @@ use Rattle.scan_rows.proofs.starts_fit.Tie as tie
 returns : tie.Need-returns
 returns c = (refl, none-small (c .before .before .args .starts .now) (c .if1 .taken))
 
-shared-slice-read-wide : tie.Need-shared-slice-read-wide
-shared-slice-read-wide c = search needs
-
-wide-requires : tie.Need-wide-requires
-wide-requires c κs = search needs
-
 returns-2 : tie.Need-returns-2
-returns-2 c = (lt-ltb (c .wide .result) 4294967296 (c .wide .ensures .1), starts-small (c .before .before .before .before .args .starts .now) (λ k. omega (arith, c .before .before .before .shared-slice-known .given k)))
+returns-2 c =
+    let args = c .before .before .before .before .args in (
+      lt-ltb (c .wide .result) 4294967296 (c .wide .ensures .1),
+      starts-small (args .starts .now) (λ k. omega (arith, c .before .before .before .shared-slice-known .given k)),
+    )
 
 pub starts-fit-spec : {M : Type 1} → statement M
-starts-fit-spec = tie.close (tie.spec returns shared-slice-read-wide wide-requires returns-2)
+starts-fit-spec = tie.close (tie.spec returns (λ c. search needs) (λ c κs. search needs) returns-2)

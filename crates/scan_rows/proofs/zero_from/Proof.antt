@@ -16,23 +16,24 @@ abbrev μ-loop : tie.MeasureT-loop
 loop-holds : tie.Need-loop-holds Inv-loop μ-loop
 loop-holds c = refl
 
-word-at-requires : tie.Need-word-at-requires Inv-loop μ-loop
-word-at-requires c κs = search needs
-
 returns : tie.Need-returns Inv-loop μ-loop
-returns c = sym (c .before .before .before .loop .inv ∙ zeros-stop (c .before .before .before .before .before .args .rows .now) (c .before .before .before .before .before .args .i) (c .before .before .before .loop .j) (c .before .before .loop-test .taken) (λ e. c .if1 .taken (c .before .word-at .ensures .0 ∙ e)))
-
-add-j : tie.Need-add-j Inv-loop μ-loop
-add-j c = search needs
-
-loop-less : tie.Need-loop-less Inv-loop μ-loop
-loop-less c = search needs
+returns c =
+    let loop = c .before .before .before .loop in
+    let args = c .before .before .before .before .before .args in
+    sym
+    (loop .inv
+    ∙ zeros-stop (args .rows .now) (args .i) (loop .j) (c .before .before .loop-test .taken) (λ e. c .if1 .taken (c .before .word-at .ensures .0 ∙ e)))
 
 loop-again : tie.Need-loop-again Inv-loop μ-loop
-loop-again c = c .before .before .before .loop .inv ∙ zeros-more (c .before .before .before .before .before .args .rows .now) (c .before .before .before .before .before .args .i) (c .before .before .before .loop .j) (c .before .before .loop-test .taken) (sym (c .before .word-at .ensures .0) ∙ c .if1 .left)
+loop-again c =
+    let loop = c .before .before .before .loop in
+    let args = c .before .before .before .before .before .args in
+    loop .inv ∙ zeros-more (args .rows .now) (args .i) (loop .j) (c .before .before .loop-test .taken) (sym (c .before .word-at .ensures .0) ∙ c .if1 .left)
 
 returns-2 : tie.Need-returns-2 Inv-loop μ-loop
-returns-2 c = sym (c .before .loop .inv ∙ zeros-end (c .before .before .before .args .rows .now) (c .before .before .before .args .i) (c .before .loop .j) (c .loop-test .left))
+returns-2 c =
+    let args = c .before .before .before .args in
+    sym (c .before .loop .inv ∙ zeros-end (args .rows .now) (args .i) (c .before .loop .j) (c .loop-test .left))
 
 pub zero-from-spec : {M : Type 1} → statement M
 zero-from-spec =
@@ -41,9 +42,9 @@ zero-from-spec =
     Inv-loop
     μ-loop
     loop-holds
-    word-at-requires
+    (λ c κs. search needs)
     returns
-    add-j
-    loop-less
+    (λ c. search needs)
+    (λ c. search needs)
     loop-again
     returns-2)

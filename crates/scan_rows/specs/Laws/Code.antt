@@ -45,6 +45,7 @@ code-only t h = go (shape-all (λ t sh. eqb t 32 || noCode (kindsOf sh)) (unfold
         or-true : (b : Bool) → (b || true) ≡ true
         or-true true = refl
         or-true false = refl
+
     go : (eqb t 32 || noCode (kindsOf (shape t))) ≡ true → noCode (kindsOf (shape t)) ≡ true
     go e = rw (ne-eqb t 32 h) at e
 
@@ -159,6 +160,7 @@ module _ {rows : List ℕ} {count : ℕ} where
     where
       all : codeTotal (rowCount rows) rows + left ≡ count
       all = omega (arith, c .sum, no-rows (rowCount rows - i) (drop (rowWidth * i) rows) (omega arith))
+
       go : (b : Bool) → eqb left 0 ≡ b → b ≡ eqb (codeTotal (rowCount rows) rows) count
       go true q = sym (eq-eqb (codeTotal (rowCount rows) rows) count (omega (arith, all, eqb-true left 0 q)))
       go false q = sym (ne-eqb (codeTotal (rowCount rows) rows) count (λ z. eqb-false left 0 q (omega (arith, all))))

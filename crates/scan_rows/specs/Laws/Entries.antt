@@ -49,6 +49,7 @@ key-leaf t e = let g = go (shape-all (λ t sh. if_then_else_ (isKeyTag t) (leafS
   where
     high : (t : ℕ) → 26 < t → if_then_else_ (isKeyTag t) (leafShape (withKids [] noValue) and leb t 26) true ≡ true
     high t h = unfold isKeyTag _and_ in (rw (ne-eqb t 1 (λ e. omega arith), lt-leb t 6 (omega arith), lt-leb t 24 (omega arith), le-leb 3 t (omega arith), le-leb 19 t (omega arith)))
+
     go : if_then_else_ (isKeyTag t) (leafShape (shape t) and leb t 26) true ≡ true → (leafShape (shape t) and leb t 26) ≡ true
     go q = rw e at q
 
@@ -149,6 +150,7 @@ module _ (store rows : List ℕ) (width d m at : ℕ) (seen : List (List ℕ)) (
     where
       none : width ≡ 1 → ⊥
       none z = unfold readMany pure in (let g : _≡_ {A = Result (Trees Part)} (ok nil (atRow rows (at + 1))) (refused 17 p) = rw z at e in let q : _≡_ {A = ℕ} 0 1 = cc in absurd (omega arith))
+
       go : (b : Bool) → eqb width 1 ≡ b → if_then_else_ b (scanKeys (suc m) seen (scanValue store (suc d))) (scanPairs (suc m) seen (scanValue store (suc d))) (atRow rows at) ≡ refused 17 p
       go true q = absurd (none (eqb-true width 1 q))
       go false q =
@@ -184,7 +186,6 @@ module _ {store rows : List ℕ} {width d n i : ℕ} where
   pub keyed-start : Keyed store rows width d n i 0 i
   keyed-start = let e : n - 0 ≡ n = omega arith in let f : width * 0 ≡ 0 = omega arith in record { seen = []; its-keys = []; entries = no-entry; upto = omega arith; alike = λ x. refl; sofar = rw (e, f) sofar-none }
 
-
 is-false : (b : Bool) → not b ≡ true → b ≡ false
 is-false true e = sym e
 is-false false e = refl
@@ -205,7 +206,7 @@ module _ {store rows : List ℕ} {width n i k at : ℕ} where
       let step : Skip rows width at j = rw wide at (skip-add (key-skips store rows at f) sk) in
       let more : width * k + width ≡ width * (k + 1) = sym (ap (λ (x : ℕ). width * x) (add-one k) ∙ mul-suc width k) in
       let one : Leads (scanEntries width (n - k) (s .seen) (scanValue store (suc d)) (atRow rows at)) (scanEntries width (n - (k + 1)) (rowKey store rows at ∷ s .seen) (scanValue store (suc d)) (atRow rows j)) =
-        rw z (entry-leads store rows width d (n - (k + 1)) at (s .seen) w w′ f new {j = j} ts e) in
+      rw z (entry-leads store rows width d (n - (k + 1)) at (s .seen) w w′ f new {j = j} ts e) in
       record {
         seen = rowKey store rows at ∷ s .seen;
         its-keys = s .its-keys ++ (rowKey store rows at ∷ []);
@@ -214,6 +215,7 @@ module _ {store rows : List ℕ} {width n i k at : ℕ} where
         alike = λ x. unfold isIn in (ap (λ (b : Bool). same x (rowKey store rows at) or b) (s .alike x)) ∙ sym (last-first x (rowKey store rows at) (s .its-keys));
         sofar = rw more at (sofar-then (s .sofar) one step);
       }
+
   pub keyed-value-bad : (d : ℕ) {p x : ℕ} (s : Keyed store rows width d n i k at) → k < n → 1 ≤ width → width ≤ 2 → 0 < d → (keyFits store rows at and not (isIn (rowKey store rows at) (s .its-keys))) ≡ true
       → readMany (width - 1) (scanValue store d anyRow) (atRow rows (at + 1)) ≡ refused 17 p → Scanned rows x i (Bad p) (scanEntries width n [] (scanValue store d) (atRow rows i))
   keyed-value-bad zero s h w w′ p g e = absurd (omega arith)
@@ -222,6 +224,7 @@ module _ {store rows : List ℕ} {width n i k at : ℕ} where
       let new = is-false (isIn (rowKey store rows at) (s .seen)) (and-right (keyFits store rows at) _ (seen-test s true g)) in
       let z : n - k ≡ suc (n - (k + 1)) = omega arith in
       sofar-bad (s .sofar) (rw z (entry-value-bad store rows width d (n - (k + 1)) at (s .seen) w w′ f new e))
+
   pub keyed-key-bad : (d : ℕ) {x : ℕ} (s : Keyed store rows width d n i k at) → length rows ≡ rowWidth * rowCount rows → k < n → 0 < d → (keyFits store rows at and not (isIn (rowKey store rows at) (s .its-keys))) ≡ false
       → Scanned rows x i (Bad at) (scanEntries width n [] (scanValue store d) (atRow rows i))
   keyed-key-bad zero s w h p g = absurd (omega arith)

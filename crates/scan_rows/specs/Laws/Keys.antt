@@ -41,6 +41,7 @@ key-number t e h = go (shape-all (λ t sh. if_then_else_ (isKeyTag t) (eqb t 6 |
   where
     high : (t : ℕ) → 26 < t → if_then_else_ (isKeyTag t) (eqb t 6 || numberOnly (withKids [] noValue)) true ≡ true
     high t h = unfold isKeyTag _and_ in (rw (ne-eqb t 1 (λ e. omega arith), lt-leb t 6 (omega arith), lt-leb t 24 (omega arith), le-leb 3 t (omega arith), le-leb 19 t (omega arith)))
+
     go : if_then_else_ (isKeyTag t) (eqb t 6 || numberOnly (shape t)) true ≡ true → numberOnly (shape t) ≡ true
     go q = rw (e, ne-eqb t 6 h) at q
 
@@ -124,8 +125,10 @@ module _ {store rows : List ℕ} {width first i : ℕ} (p : 1 ≤ width) where
 
   pub search-next : {k j : ℕ} → k < i → Searching store rows width first i k → same (rowKey store rows i) (rowKey store rows k) ≡ false → ((j′ : ℕ) → Skip rows width k j′ → j ≡ j′) → Searching store rows width first i j
   unfolding isIn
-  search-next {k} {j} h s d f = record { rest = λ l e. let r = s .rest l e in let n = entries-next p h (r .1) in
-      (n .1, rw (f (n .0) (n .4)) (n .5), r .2 ∙ ap (isIn (rowKey store rows i)) (n .2) ∙ (rw d)) }
+  search-next {k} {j} h s d f = record {
+    rest = λ l e. let r = s .rest l e in let n = entries-next p h (r .1) in
+        (n .1, rw (f (n .0) (n .4)) (n .5), r .2 ∙ ap (isIn (rowKey store rows i)) (n .2) ∙ (rw d));
+  }
 
   pub search-found : {k : ℕ} → k < i → Searching store rows width first i k → same (rowKey store rows i) (rowKey store rows k) ≡ true → (l : List (List ℕ)) → Entries store rows width first i l → true ≡ isIn (rowKey store rows i) l
   unfolding isIn

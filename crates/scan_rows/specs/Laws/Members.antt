@@ -134,4 +134,3 @@ module _ (store rows : List ℕ) (b : WholeRows rows) (d n i : ℕ) where
     where
       one : (t : Node Part) → scanValue store d anyRow (atRow rows i) ≡ ok t (atRow rows j) → scanTemplate (scanValue store d) n (atRow rows i) ≡ _>>=_ (readMany n (scanValue store d anyRow)) (λ ts. pure (cons t ts)) (atRow rows j)
       one t q = unfold _>>=_ andThen in (rw (function-is store rows i (b .whole) d f, q))
-

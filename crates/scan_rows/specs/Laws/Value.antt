@@ -112,6 +112,7 @@ module _ (store rows : List ℕ) (i : ℕ) where
       where
         tagged-in : isTagged rows 7 i ≡ true → i < rowCount rows
         tagged-in h = unfold isTagged in (ltb-true _ _ (and-left _ _ h))
+
         is-seven : isTagged rows 7 i ≡ true → isFunction (tagAt rows i) (forgetItems (itemsAt store rows i)) ≡ true
         is-seven h = unfold isTagged isFunction in (and-right (ltb i (rowCount rows)) _ h)
 

@@ -6,13 +6,38 @@ use Rattle.serialize.proofs.write_sound.Statement.{statement}
 use Rattle.serialize.proofs.write_sound.Tie as tie
 
 write-gathered-requires : tie.Need-write-gathered-requires
-write-gathered-requires c κs = (omega (arith, entries-fit _ _ _ (c .before .before .before .before .before .before .before .before .before .before .before .before .before .before .before .pre .0 .2) _ (c .before .before .before .before .before .before .before .gather-strings .ensures .0) _ (c .before .before .before .count .given .1) (c .before .before .before .before .before .before .before .gather-strings .ensures .1), c .before .before .before .before .before .before .before .gather-strings .kept .1 .1 .1 .1 .1 .0), entries-writable _ _ _ (c .before .before .before .before .before .before .before .before .before .before .before .before .before .before .before .pre .0 .2) _ (c .before .before .before .before .before .before .before .gather-strings .ensures .0) _ (c .before .before .before .count .given .1) (c .before .before .before .before .before .before .before .gather-strings .ensures .1))
+write-gathered-requires c κs =
+    let count = c .before .before .before .count in
+    let at-gather-strings = c .before .before .before .before .before .before .before in
+    let gather-strings = at-gather-strings .gather-strings in
+    let pre = at-gather-strings .before .before .before .before .before .before .before .before .pre in (
+      omega (
+        arith,
+        entries-fit _ _ _ (pre .0 .2) _ (gather-strings .ensures .0) _ (count .given .1) (gather-strings .ensures .1) (pre .1),
+        gather-strings .kept .1 .1 .1 .1 .1 .0,
+      ),
+      entries-writable _ _ _ (pre .0 .2) _ (gather-strings .ensures .0) _ (count .given .1) (gather-strings .ensures .1) (pre .1),
+    )
 
 returns : tie.Need-returns
-returns c = leaves-gathered _ _ _ (c .before .before .before .before .before .before .before .before .before .before .before .before .before .before .before .before .before .before .before .before .pre .0 .2) _ (c .before .before .before .before .before .before .before .before .before .before .before .before .gather-strings .ensures .0) _ (c .before .before .before .before .before .before .before .before .count .given .1) (c .before .before .before .before .before .before .before .before .before .before .before .before .gather-strings .ensures .1) _ (c .before .before .before .before .before .before .before .before .before .before .before .before .gather-strings .kept .1 .1 .1 .1 .1 .0) (c .before .before .before .before .write-gathered .ensures)
+returns c =
+    let at-write-gathered = c .before .before .before .before in
+    let at-count = at-write-gathered .before .before .before .before in
+    let at-gather-strings = at-count .before .before .before .before in
+    let gather-strings = at-gather-strings .gather-strings in
+    let pre = at-gather-strings .before .before .before .before .before .before .before .before .pre in
+    leaves-gathered _ _ _ (pre .0 .2) _ (gather-strings .ensures .0) _ (at-count .count .given .1) (gather-strings .ensures .1) (pre .1) _
+    (gather-strings .kept .1 .1 .1 .1 .1 .0) (at-write-gathered .write-gathered .ensures)
 
 returns-2 : tie.Need-returns-2
-returns-2 c = leaves-full _ _ _ (c .before .before .before .before .before .before .before .before .before .before .before .before .before .before .before .before .pre .0 .2) _ (c .before .before .before .before .before .before .before .before .gather-strings .ensures .0) _ _ _ (c .before .before .before .before .enum-told .given .1) (c .before .before .before .before .before .before .before .before .gather-strings .kept .1 .1 .1 .1 .1 .0) (c .before .before .refuse .ensures .0) (c .before .before .refuse .ensures .1)
+returns-2 c =
+    let refuse = c .before .before .refuse in
+    let at-enum-told = c .before .before .before .before in
+    let at-gather-strings = at-enum-told .before .before .before .before in
+    let gather-strings = at-gather-strings .gather-strings in
+    let pre = at-gather-strings .before .before .before .before .before .before .before .before .pre in
+    leaves-full _ _ _ (pre .0 .2) _ (gather-strings .ensures .0) _ _ _ (at-enum-told .enum-told .given .1) (gather-strings .kept .1 .1 .1 .1 .1 .0)
+    (refuse .ensures .0) (refuse .ensures .1)
 
 pub write-sound-spec : {M : Type 1} → statement M
 write-sound-spec =

@@ -23,18 +23,21 @@ loop-holds c = (omega arith, refl, sym (put-none _ _))
 
 loop-again : tie.Need-loop-again Inv-loop μ-loop
 loop-again c =
-    let d = c .before .before .before .args .out .now in
-    let at = c .before .before .before .args .at in
-    let s = c .before .before .before .args .s .now in
-    let i = c .before .before .loop .i in
-    let inv = c .before .before .loop .inv in
+    let loop = c .before .before .loop in
+    let args = c .before .before .before .args in
+    let d = args .out .now in
+    let at = args .at in
+    let s = args .s .now in
+    let i = loop .i in
+    let inv = loop .inv in
     (omega arith, simp length-set (inv .1), ap (λ (l : List ℕ). set l (at + i) (getD s i 0)) (inv .2) ∙ copy-more d at s i (omega arith))
 
 returns : tie.Need-returns Inv-loop μ-loop
 returns c =
-    let d = c .before .before .args .out .now in
-    let at = c .before .before .args .at in
-    let s = c .before .before .args .s .now in
+    let args = c .before .before .args in
+    let d = args .out .now in
+    let at = args .at in
+    let s = args .s .now in
     c .before .loop .inv .2 ∙ ap (put d at) (take-all (c .before .loop .i) s (omega arith))
 
 pub copy-part-spec : {M : Type 1} → statement M

@@ -20,15 +20,18 @@ returns c = sym (same-long _ _ (c .if1 .taken))
 
 returns-3 : tie.Need-returns-3 Inv-loop μ-loop
 returns-3 c =
-    let a = c .before .before .before .before .before .before .before .before .args .a .now in
-    let b = c .before .before .before .before .before .before .before .before .args .b .now in
+    let args = c .before .before .before .before .before .before .before .before .args in
+    let a = args .a .now in
+    let b = args .b .now in
     sym (same-part-no a b (c .before .before .before .loop .i) 32 (sym (c .before .equal-block .ensures) ∙ not-true _ (c .if3 .taken)))
 
 loop-again : tie.Need-loop-again Inv-loop μ-loop
 loop-again c =
-    let a = c .before .before .before .before .before .before .before .before .args .a .now in
-    let b = c .before .before .before .before .before .before .before .before .args .b .now in
-    (omega arith, take-same a b (c .before .before .before .loop .i) 32 (c .before .before .before .loop .inv .1) (sym (c .before .equal-block .ensures) ∙ not-false _ (c .if3 .left)))
+    let loop = c .before .before .before .loop in
+    let args = c .before .before .before .before .before .before .before .before .args in
+    let a = args .a .now in
+    let b = args .b .now in
+    (omega arith, take-same a b (loop .i) 32 (loop .inv .1) (sym (c .before .equal-block .ensures) ∙ not-false _ (c .if3 .left)))
 
 pub equal-spec : {M : Type 1} → statement M
 equal-spec =

@@ -26,11 +26,13 @@ loop-holds c =
 
 loop-again : tie.Need-loop-again Inv-loop μ-loop
 loop-again c =
-    let a = c .before .before .before .before .args .a .now in
-    let b = c .before .before .before .before .args .b .now in
-    let i = c .before .before .before .before .args .i in
-    let k = c .before .before .before .loop .k in
-    let inv = c .before .before .before .loop .inv in
+    let loop = c .before .before .before .loop in
+    let args = c .before .before .before .before .args in
+    let a = args .a .now in
+    let b = args .b .now in
+    let i = args .i in
+    let k = loop .k in
+    let inv = loop .inv in
     (omega arith, omega arith, ap (λ (r : Bool). r && eqb (getD a k 0) (getD b k 0)) (inv .2) ∙ block-more a b i k (inv .0) (omega arith) (omega arith))
 
 returns : tie.Need-returns Inv-loop μ-loop

@@ -17,20 +17,27 @@ abbrev μ-loop : tie.MeasureT-loop
 
 returns : tie.Need-returns Inv-loop μ-loop
 returns c =
-    let a = c .before .before .before .before .before .args .a .now in
-    let b = c .before .before .before .before .before .args .b .now in
-    sym (c .before .before .before .before .loop .inv .1 ∙ same-differ a b (c .before .before .before .before .loop .i) (omega arith) (omega arith) (c .if1 .taken))
+    let at-loop = c .before .before .before .before in
+    let loop = at-loop .loop in
+    let args = at-loop .before .args in
+    let a = args .a .now in
+    let b = args .b .now in
+    sym (loop .inv .1 ∙ same-differ a b (loop .i) (omega arith) (omega arith) (c .if1 .taken))
 
 loop-again : tie.Need-loop-again Inv-loop μ-loop
 loop-again c =
-    let a = c .before .before .before .before .before .args .a .now in
-    let b = c .before .before .before .before .before .args .b .now in
-    (omega arith, c .before .before .before .before .loop .inv .1 ∙ same-step a b (c .before .before .before .before .loop .i) (omega arith) (omega arith) (c .if1 .left))
+    let at-loop = c .before .before .before .before in
+    let loop = at-loop .loop in
+    let args = at-loop .before .args in
+    let a = args .a .now in
+    let b = args .b .now in
+    (omega arith, loop .inv .1 ∙ same-step a b (loop .i) (omega arith) (omega arith) (c .if1 .left))
 
 returns-2 : tie.Need-returns-2 Inv-loop μ-loop
 returns-2 c =
-    let a = c .before .before .args .a .now in
-    let b = c .before .before .args .b .now in
+    let args = c .before .before .args in
+    let a = args .a .now in
+    let b = args .b .now in
     sym (c .before .loop .inv .1 ∙ same-end a b (c .before .loop .i) (omega arith) (omega arith))
 
 pub equal-bytes-spec : {M : Type 1} → statement M

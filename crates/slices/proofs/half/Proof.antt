@@ -7,8 +7,9 @@ use Rattle.slices.proofs.half.Tie as tie
 
 returns : tie.Need-returns
 returns c =
-    let s = c .before .before .before .args .s .now in
-    let i = c .before .before .before .args .i in
+    let args = c .before .before .before .args in
+    let s = args .s .now in
+    let i = args .i in
     (omega (arith, fromLeBytes-part s i 2 2 (omega arith)), omega arith)
 
 pub half-spec : {M : Type 1} → statement M

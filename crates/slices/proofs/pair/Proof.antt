@@ -11,8 +11,9 @@ use Rattle.slices.proofs.pair.Tie as tie
 returns : tie.Need-returns
 unfolding fromLeBytes
 returns c =
-    let s = c .before .before .before .before .before .args .s .now in
-    let i = c .before .before .before .before .before .args .i in
+    let args = c .before .before .before .before .before .args in
+    let s = args .s .now in
+    let i = args .i in
     (omega (arith, bytes-first s i (i + 1) 1 (omega arith) refl, bytes-first s (i + 1) (i + 2) 0 (omega arith) (omega arith)), omega arith)
 
 pub pair-spec : {M : Type 1} → statement M

@@ -6,7 +6,9 @@ use Rattle.slices.proofs.word.Statement.{statement}
 use Rattle.slices.proofs.word.Tie as tie
 
 returns : tie.Need-returns
-returns c = omega (arith, fromLeBytes-part (c .before .before .before .args .s .now) (c .before .before .before .args .i) 4 4 (omega arith))
+returns c =
+    let args = c .before .before .before .args in
+    omega (arith, fromLeBytes-part (args .s .now) (args .i) 4 4 (omega arith))
 
 pub word-spec : {M : Type 1} → statement M
 word-spec =

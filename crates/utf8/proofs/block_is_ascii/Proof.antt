@@ -8,33 +8,13 @@ use Rattle.utf8.proofs.Ascii.{test-ascii, ascii-and}
 use Rattle.utf8.proofs.block_is_ascii.Statement.{statement}
 use Rattle.utf8.proofs.block_is_ascii.Tie as tie
 
-high-bits-requires : tie.Need-high-bits-requires
-high-bits-requires c κs = search needs
-
-add-high-bits : tie.Need-add-high-bits
-add-high-bits c = search needs
-
-high-bits-requires-2 : tie.Need-high-bits-requires-2
-high-bits-requires-2 c κs = search needs
-
-add-high-bits-2 : tie.Need-add-high-bits-2
-add-high-bits-2 c = search needs
-
-high-bits-requires-3 : tie.Need-high-bits-requires-3
-high-bits-requires-3 c κs = search needs
-
-add-high-bits-3 : tie.Need-add-high-bits-3
-add-high-bits-3 c = search needs
-
-high-bits-requires-4 : tie.Need-high-bits-requires-4
-high-bits-requires-4 c κs = search needs
-
 returns : tie.Need-returns
 returns c =
-    let a = c .before .before .before .before .before .args in
+    let at-shared-slice-known = c .before .before .before .before in
+    let a = at-shared-slice-known .before .args in
     let s : List ℕ = a .s .now in
     let i = a .i in
-    let small : Bytes s = λ k. omega (arith, c .before .before .before .before .shared-slice-known .given k) in
+    let small : Bytes s = λ k. omega (arith, at-shared-slice-known .shared-slice-known .given k) in
     ascii-and s i (i + 24) (i + 32) _ _
     (ascii-and s i (i + 16) (i + 24) _ _
     (ascii-and s i (i + 8) (i + 16) _ _
@@ -47,11 +27,11 @@ pub block-is-ascii-spec : {M : Type 1} → statement M
 block-is-ascii-spec =
     tie.close
     (tie.spec
-    high-bits-requires
-    add-high-bits
-    high-bits-requires-2
-    add-high-bits-2
-    high-bits-requires-3
-    add-high-bits-3
-    high-bits-requires-4
+    (λ c κs. search needs)
+    (λ c. search needs)
+    (λ c κs. search needs)
+    (λ c. search needs)
+    (λ c κs. search needs)
+    (λ c. search needs)
+    (λ c κs. search needs)
     returns)

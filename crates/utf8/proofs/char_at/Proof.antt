@@ -7,23 +7,11 @@ use Rattle.utf8.specs.Laws.Utf8.{char-one, char-none, char-two, char-thr
 use Rattle.utf8.proofs.char_at.Statement.{statement}
 use Rattle.utf8.proofs.char_at.Tie as tie
 
-shared-slice-read-a : tie.Need-shared-slice-read-a
-shared-slice-read-a c = search needs
-
 returns : tie.Need-returns
 returns c = sym (char-one _ _ _ _ (omega arith))
 
 returns-2 : tie.Need-returns-2
 returns-2 c = sym (char-none _ _ _ _ (omega arith) (omega arith))
-
-add-byte-at : tie.Need-add-byte-at
-add-byte-at c = search needs
-
-byte-at-requires : tie.Need-byte-at-requires
-byte-at-requires c κs = search needs
-
-tail-requires : tie.Need-tail-requires
-tail-requires c κs = search needs
 
 returns-3 : tie.Need-returns-3
 returns-3 c = sym (char-two _ _ _ _ (omega arith) (omega arith) true (cc))
@@ -31,29 +19,11 @@ returns-3 c = sym (char-two _ _ _ _ (omega arith) (omega arith) true (cc))
 returns-4 : tie.Need-returns-4
 returns-4 c = sym (char-two _ _ _ _ (omega arith) (omega arith) false (cc))
 
-add-byte-at-2 : tie.Need-add-byte-at-2
-add-byte-at-2 c = search needs
-
-byte-at-requires-2 : tie.Need-byte-at-requires-2
-byte-at-requires-2 c κs = search needs
-
-three-requires : tie.Need-three-requires
-three-requires c κs = search needs
-
 returns-5 : tie.Need-returns-5
 returns-5 c = sym (char-three _ _ _ _ (omega arith) (omega arith) true (cc))
 
 returns-6 : tie.Need-returns-6
 returns-6 c = sym (char-three _ _ _ _ (omega arith) (omega arith) false (cc))
-
-add-byte-at-3 : tie.Need-add-byte-at-3
-add-byte-at-3 c = search needs
-
-byte-at-requires-3 : tie.Need-byte-at-requires-3
-byte-at-requires-3 c κs = search needs
-
-four-requires : tie.Need-four-requires
-four-requires c κs = search needs
 
 returns-7 : tie.Need-returns-7
 returns-7 c = sym (char-four _ _ _ _ (omega arith) true (cc))
@@ -65,21 +35,21 @@ pub char-at-spec : {M : Type 1} → statement M
 char-at-spec =
     tie.close
     (tie.spec
-    shared-slice-read-a
+    (λ c. search needs)
     returns
     returns-2
-    add-byte-at
-    byte-at-requires
-    tail-requires
+    (λ c. search needs)
+    (λ c κs. search needs)
+    (λ c κs. search needs)
     returns-3
     returns-4
-    add-byte-at-2
-    byte-at-requires-2
-    three-requires
+    (λ c. search needs)
+    (λ c κs. search needs)
+    (λ c κs. search needs)
     returns-5
     returns-6
-    add-byte-at-3
-    byte-at-requires-3
-    four-requires
+    (λ c. search needs)
+    (λ c κs. search needs)
+    (λ c κs. search needs)
     returns-7
     returns-8)

@@ -5,36 +5,16 @@ use Rattle.utf8.specs.Laws.Utf8.{four-F0, four-F1, four-F4, four-none}
 use Rattle.utf8.proofs.four.Statement.{statement}
 use Rattle.utf8.proofs.four.Tie as tie
 
-tail-requires : tie.Need-tail-requires
-tail-requires c κs = search needs
-
-tail-requires-2 : tie.Need-tail-requires-2
-tail-requires-2 c κs = search needs
-
 returns : tie.Need-returns
 returns c =
     let x = c .before .before .before .args in
     cc (four-F0 (x .a) (x .b) (x .c) (x .d) (c .before .before .if1 .taken))
 
-tail-requires-3 : tie.Need-tail-requires-3
-tail-requires-3 c κs = search needs
-
-tail-requires-4 : tie.Need-tail-requires-4
-tail-requires-4 c κs = search needs
-
-tail-requires-5 : tie.Need-tail-requires-5
-tail-requires-5 c κs = search needs
-
 returns-2 : tie.Need-returns-2
 returns-2 c =
-    let x = c .before .before .before .before .before .args in
-    cc (four-F1 (x .a) (x .b) (x .c) (x .d) (omega arith) (c .before .before .before .before .if1 .left) (omega arith))
-
-tail-requires-6 : tie.Need-tail-requires-6
-tail-requires-6 c κs = search needs
-
-tail-requires-7 : tie.Need-tail-requires-7
-tail-requires-7 c κs = search needs
+    let at-if1 = c .before .before .before .before in
+    let x = at-if1 .before .args in
+    cc (four-F1 (x .a) (x .b) (x .c) (x .d) (omega arith) (at-if1 .if1 .left) (omega arith))
 
 returns-3 : tie.Need-returns-3
 returns-3 c =
@@ -48,14 +28,14 @@ pub four-spec : {M : Type 1} → statement M
 four-spec =
     tie.close
     (tie.spec
-    tail-requires
-    tail-requires-2
+    (λ c κs. search needs)
+    (λ c κs. search needs)
     returns
-    tail-requires-3
-    tail-requires-4
-    tail-requires-5
+    (λ c κs. search needs)
+    (λ c κs. search needs)
+    (λ c κs. search needs)
     returns-2
-    tail-requires-6
-    tail-requires-7
+    (λ c κs. search needs)
+    (λ c κs. search needs)
     returns-3
     returns-4)

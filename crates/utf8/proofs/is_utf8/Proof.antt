@@ -25,37 +25,24 @@ abbrev I : tie.Else2 Inv-loop μ-loop → ℕ
 I c = c .before .before .before .before .before .loop .i
 
 one-char : (c : tie.Else2 Inv-loop μ-loop) → Skips (S c) (I c) (I c + c .before .char-at .result)
-one-char c = skips-char _ _ _ (c .before .before .before .before .loop-test .taken) (sym (c .before .char-at .ensures)) (c .if2 .left)
-
-skip-words-requires : tie.Need-skip-words-requires Inv-loop μ-loop
-skip-words-requires c κs = search needs
+one-char c =
+    let loop-test = c .before .before .before .before .loop-test in
+    skips-char _ _ _ (loop-test .taken) (sym (c .before .char-at .ensures)) (c .if2 .left)
 
 loop-holds : tie.Need-loop-holds Inv-loop μ-loop
 loop-holds c = c .skip-words .ensures
 
-shared-slice-read-if1 : tie.Need-shared-slice-read-if1 Inv-loop μ-loop
-shared-slice-read-if1 c = search needs
-
-add-skip-ascii : tie.Need-add-skip-ascii Inv-loop μ-loop
-add-skip-ascii c = search needs
-
-skip-ascii-requires : tie.Need-skip-ascii-requires Inv-loop μ-loop
-skip-ascii-requires c κs = search needs
-
-loop-less : tie.Need-loop-less Inv-loop μ-loop
-loop-less c = search needs
-
 loop-again : tie.Need-loop-again Inv-loop μ-loop
 loop-again c =
+    let loop = c .before .before .before .before .loop in
     let one = skips-one _ _ (c .before .before .before .loop-test .taken) (c .before .if1 .taken) in
-    skips-on (c .before .before .before .before .loop .inv) (skips-on one (c .skip-ascii .ensures))
-
-char-at-requires : tie.Need-char-at-requires Inv-loop μ-loop
-char-at-requires c κs = search needs
+    skips-on (loop .inv) (skips-on one (c .skip-ascii .ensures))
 
 returns : tie.Need-returns Inv-loop μ-loop
 returns c =
-    sym (c .before .before .before .before .before .loop .inv .same ∙ utf8-bad _ _ (c .before .before .before .before .loop-test .taken) (cc))
+    let at-loop-test = c .before .before .before .before in
+    let loop = at-loop-test .before .loop in
+    sym (loop .inv .same ∙ utf8-bad _ _ (at-loop-test .loop-test .taken) (cc))
 
 add-skip-run : tie.Need-add-skip-run Inv-loop μ-loop
 add-skip-run c = omega (arith, one-char c)
@@ -68,7 +55,8 @@ loop-less-2 c = omega (arith, one-char (c .before))
 
 loop-again-2 : tie.Need-loop-again-2 Inv-loop μ-loop
 loop-again-2 c =
-    skips-on (c .before .before .before .before .before .before .loop .inv) (skips-on (one-char (c .before)) (c .skip-run .ensures))
+    let loop = c .before .before .before .before .before .before .loop in
+    skips-on (loop .inv) (skips-on (one-char (c .before)) (c .skip-run .ensures))
 
 returns-2 : tie.Need-returns-2 Inv-loop μ-loop
 returns-2 c = sym (c .before .loop .inv .same ∙ utf8-end _ _ (c .loop-test .left))
@@ -79,14 +67,14 @@ is-utf8-spec =
     (tie.spec
     Inv-loop
     μ-loop
-    skip-words-requires
+    (λ c κs. search needs)
     loop-holds
-    shared-slice-read-if1
-    add-skip-ascii
-    skip-ascii-requires
-    loop-less
+    (λ c. search needs)
+    (λ c. search needs)
+    (λ c κs. search needs)
+    (λ c. search needs)
     loop-again
-    char-at-requires
+    (λ c κs. search needs)
     returns
     add-skip-run
     skip-run-requires

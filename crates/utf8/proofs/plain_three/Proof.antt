@@ -4,16 +4,10 @@ use Rattle.utf8.specs.Laws.Utf8.{three-plain}
 use Rattle.utf8.proofs.plain_three.Statement.{statement}
 use Rattle.utf8.proofs.plain_three.Tie as tie
 
-tail-requires : tie.Need-tail-requires
-tail-requires c κs = search needs
-
-tail-requires-2 : tie.Need-tail-requires-2
-tail-requires-2 c κs = search needs
-
 returns : tie.Need-returns
 returns c =
     let x = c .before .before .args in
     λ e. three-plain (x .a) (x .b) (x .c) 0 (cc)
 
 pub plain-three-spec : {M : Type 1} → statement M
-plain-three-spec = tie.close (tie.spec tail-requires tail-requires-2 returns)
+plain-three-spec = tie.close (tie.spec (λ c κs. search needs) (λ c κs. search needs) returns)

@@ -12,20 +12,11 @@ use Rattle.utf8.proofs.Skips.{skips-none, skips-on, skips-ascii}
 use Rattle.utf8.proofs.skip_ascii.Statement.{statement}
 use Rattle.utf8.proofs.skip_ascii.Tie as tie
 
-sub-if1 : tie.Need-sub-if1
-sub-if1 c = search needs
-
 returns : tie.Need-returns
 returns c = skips-none _ _ (c .before .before .pre)
 
-high-bits-requires : tie.Need-high-bits-requires
-high-bits-requires c κs = search needs
-
 cast-n : tie.Need-cast-n
 cast-n c = omega (arith, trailing-le 64 (c .high-bits .result))
-
-add-result : tie.Need-add-result
-add-result c = search needs
 
 returns-2 : tie.Need-returns-2
 returns-2 c =
@@ -37,17 +28,12 @@ returns-2 c =
     let ascii = prefix-ascii s (a .from) (omega arith) small n (omega arith) e in
     skips-ascii s (a .from) (a .from + n) (omega arith) (omega arith) ascii
 
-add-skip-words : tie.Need-add-skip-words
-add-skip-words c = search needs
-
-skip-words-requires : tie.Need-skip-words-requires
-skip-words-requires c κs = search needs
-
 returns-3 : tie.Need-returns-3
 returns-3 c =
-    let a = c .before .before .before .before .before .args in
+    let at-shared-slice-known = c .before .before .before .before in
+    let a = at-shared-slice-known .before .args in
     let s : List ℕ = a .s .now in
-    let small : Bytes s = λ k. omega (arith, c .before .before .before .before .shared-slice-known .given k) in
+    let small : Bytes s = λ k. omega (arith, at-shared-slice-known .shared-slice-known .given k) in
     let t = ap (λ (m : ℕ). trailingZeros 64 m) (c .before .before .high-bits .ensures) in
     let e : 8 ≡ trailingZeros 64 (highBits s (a .from)) / 8 = omega (arith, trailing-le 64 (highBits s (a .from))) in
     let ascii = prefix-ascii s (a .from) (omega arith) small 8 (omega arith) e in
@@ -57,12 +43,12 @@ pub skip-ascii-spec : {M : Type 1} → statement M
 skip-ascii-spec =
     tie.close
     (tie.spec
-    sub-if1
+    (λ c. search needs)
     returns
-    high-bits-requires
+    (λ c κs. search needs)
     cast-n
-    add-result
+    (λ c. search needs)
     returns-2
-    add-skip-words
-    skip-words-requires
+    (λ c. search needs)
+    (λ c κs. search needs)
     returns-3)

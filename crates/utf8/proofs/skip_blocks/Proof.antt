@@ -17,28 +17,10 @@ abbrev μ-loop : tie.MeasureT-loop
 loop-holds : tie.Need-loop-holds Inv-loop μ-loop
 loop-holds c = skips-none _ _ (c .before .pre)
 
-sub-loop : tie.Need-sub-loop Inv-loop μ-loop
-sub-loop c = search needs
-
-block-is-ascii-requires : tie.Need-block-is-ascii-requires Inv-loop μ-loop
-block-is-ascii-requires c κs = search needs
-
-add-i : tie.Need-add-i Inv-loop μ-loop
-add-i c = search needs
-
-loop-less : tie.Need-loop-less Inv-loop μ-loop
-loop-less c = search needs
-
 loop-again : tie.Need-loop-again Inv-loop μ-loop
 loop-again c =
     let ascii = c .before .block-is-ascii .ensures (c .if1 .taken) in
     skips-on (c .before .before .before .loop .inv) (skips-ascii _ _ _ (omega arith) (omega arith) ascii)
-
-returns : tie.Need-returns Inv-loop μ-loop
-returns c = search needs
-
-returns-2 : tie.Need-returns-2 Inv-loop μ-loop
-returns-2 c = search needs
 
 pub skip-blocks-spec : {M : Type 1} → statement M
 skip-blocks-spec =
@@ -47,10 +29,10 @@ skip-blocks-spec =
     Inv-loop
     μ-loop
     loop-holds
-    sub-loop
-    block-is-ascii-requires
-    add-i
-    loop-less
+    (λ c. search needs)
+    (λ c κs. search needs)
+    (λ c. search needs)
+    (λ c. search needs)
     loop-again
-    returns
-    returns-2)
+    (λ c. search needs)
+    (λ c. search needs))

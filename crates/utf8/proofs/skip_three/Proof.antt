@@ -17,43 +17,11 @@ abbrev μ-loop : tie.MeasureT-loop
 loop-holds : tie.Need-loop-holds Inv-loop μ-loop
 loop-holds c = skips-none _ _ (c .before .pre)
 
-sub-loop : tie.Need-sub-loop Inv-loop μ-loop
-sub-loop c = search needs
-
-shared-slice-read-plain-three : tie.Need-shared-slice-read-plain-three Inv-loop μ-loop
-shared-slice-read-plain-three c = search needs
-
-add-plain-three : tie.Need-add-plain-three Inv-loop μ-loop
-add-plain-three c = search needs
-
-shared-slice-read-plain-three-2 : tie.Need-shared-slice-read-plain-three-2 Inv-loop μ-loop
-shared-slice-read-plain-three-2 c = search needs
-
-add-plain-three-2 : tie.Need-add-plain-three-2 Inv-loop μ-loop
-add-plain-three-2 c = search needs
-
-shared-slice-read-plain-three-3 : tie.Need-shared-slice-read-plain-three-3 Inv-loop μ-loop
-shared-slice-read-plain-three-3 c = search needs
-
-plain-three-requires : tie.Need-plain-three-requires Inv-loop μ-loop
-plain-three-requires c κs = search needs
-
-add-i : tie.Need-add-i Inv-loop μ-loop
-add-i c = search needs
-
-loop-less : tie.Need-loop-less Inv-loop μ-loop
-loop-less c = search needs
-
 loop-again : tie.Need-loop-again Inv-loop μ-loop
 loop-again c =
+    let loop = c .before .before .before .before .before .before .loop in
     let three = c .before .plain-three .ensures (c .if1 .taken) in
-    skips-on (c .before .before .before .before .before .before .loop .inv) (skips-three _ _ (omega arith) three)
-
-returns : tie.Need-returns Inv-loop μ-loop
-returns c = search needs
-
-returns-2 : tie.Need-returns-2 Inv-loop μ-loop
-returns-2 c = search needs
+    skips-on (loop .inv) (skips-three _ _ (omega arith) three)
 
 pub skip-three-spec : {M : Type 1} → statement M
 skip-three-spec =
@@ -62,15 +30,15 @@ skip-three-spec =
     Inv-loop
     μ-loop
     loop-holds
-    sub-loop
-    shared-slice-read-plain-three
-    add-plain-three
-    shared-slice-read-plain-three-2
-    add-plain-three-2
-    shared-slice-read-plain-three-3
-    plain-three-requires
-    add-i
-    loop-less
+    (λ c. search needs)
+    (λ c. search needs)
+    (λ c. search needs)
+    (λ c. search needs)
+    (λ c. search needs)
+    (λ c. search needs)
+    (λ c κs. search needs)
+    (λ c. search needs)
+    (λ c. search needs)
     loop-again
-    returns
-    returns-2)
+    (λ c. search needs)
+    (λ c. search needs))

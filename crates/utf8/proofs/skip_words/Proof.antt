@@ -18,54 +18,24 @@ Inv-loop s from i₀ i = Skips s from i
 abbrev μ-loop : tie.MeasureT-loop
 μ-loop s from i₀ i = length s - i
 
-skip-blocks-requires : tie.Need-skip-blocks-requires Inv-loop μ-loop
-skip-blocks-requires c κs = search needs
-
-loop-holds : tie.Need-loop-holds Inv-loop μ-loop
-loop-holds c = search needs
-
-sub-loop : tie.Need-sub-loop Inv-loop μ-loop
-sub-loop c = search needs
-
-high-bits-requires : tie.Need-high-bits-requires Inv-loop μ-loop
-high-bits-requires c κs = search needs
-
-add-i : tie.Need-add-i Inv-loop μ-loop
-add-i c = search needs
-
-loop-less : tie.Need-loop-less Inv-loop μ-loop
-loop-less c = search needs
-
 loop-again : tie.Need-loop-again Inv-loop μ-loop
 loop-again c =
     let at = c .before .before .before .loop in
+    let shared-slice-known = c .before .before .before .before .before .shared-slice-known in
     let s : List ℕ = c .before .before .before .before .before .before .args .s .now in
-    let small : Bytes s = λ k. omega (arith, c .before .before .before .before .before .shared-slice-known .given k) in
+    let small : Bytes s = λ k. omega (arith, shared-slice-known .given k) in
     let ascii = word-ascii s (at .i) (omega arith) small (sym (c .before .high-bits .ensures) ∙ c .if1 .taken) in
     skips-on (at .inv) (skips-ascii s (at .i) (at .i + 8) (omega arith) (omega arith) ascii)
 
-returns : tie.Need-returns Inv-loop μ-loop
-returns c = search needs
-
-sub-last : tie.Need-sub-last Inv-loop μ-loop
-sub-last c = search needs
-
-high-bits-requires-2 : tie.Need-high-bits-requires-2 Inv-loop μ-loop
-high-bits-requires-2 c κs = search needs
-
 returns-2 : tie.Need-returns-2 Inv-loop μ-loop
 returns-2 c =
-    let at = c .before .before .before .before .loop in
-    let s : List ℕ = c .before .before .before .before .before .before .before .args .s .now in
-    let small : Bytes s = λ k. omega (arith, c .before .before .before .before .before .before .shared-slice-known .given k) in
+    let at-loop = c .before .before .before .before in
+    let at = at-loop .loop in
+    let shared-slice-known = at-loop .before .before .shared-slice-known in
+    let s : List ℕ = at-loop .before .before .before .args .s .now in
+    let small : Bytes s = λ k. omega (arith, shared-slice-known .given k) in
     let ascii = word-ascii s (length s - 8) (omega arith) small (sym (c .before .high-bits2 .ensures) ∙ c .if3 .taken) in
     skips-on (at .inv) (skips-ascii s (at .i) (length s) (omega arith) (omega arith) (λ k p q. ascii k (omega arith) (omega arith)))
-
-returns-3 : tie.Need-returns-3 Inv-loop μ-loop
-returns-3 c = search needs
-
-returns-4 : tie.Need-returns-4 Inv-loop μ-loop
-returns-4 c = search needs
 
 pub skip-words-spec : {M : Type 1} → statement M
 skip-words-spec =
@@ -73,16 +43,16 @@ skip-words-spec =
     (tie.spec
     Inv-loop
     μ-loop
-    skip-blocks-requires
-    loop-holds
-    sub-loop
-    high-bits-requires
-    add-i
-    loop-less
+    (λ c κs. search needs)
+    (λ c. search needs)
+    (λ c. search needs)
+    (λ c κs. search needs)
+    (λ c. search needs)
+    (λ c. search needs)
     loop-again
-    returns
-    sub-last
-    high-bits-requires-2
+    (λ c. search needs)
+    (λ c. search needs)
+    (λ c κs. search needs)
     returns-2
-    returns-3
-    returns-4)
+    (λ c. search needs)
+    (λ c. search needs))

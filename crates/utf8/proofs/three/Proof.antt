@@ -4,27 +4,15 @@ use Rattle.utf8.specs.Laws.Utf8.{three-E0, three-ED, three-rest}
 use Rattle.utf8.proofs.three.Statement.{statement}
 use Rattle.utf8.proofs.three.Tie as tie
 
-tail-requires : tie.Need-tail-requires
-tail-requires c κs = search needs
-
 returns : tie.Need-returns
 returns c =
     let x = c .before .before .args in
     cc (three-E0 (x .a) (x .b) (x .c) 0 (c .before .if1 .taken))
 
-tail-requires-2 : tie.Need-tail-requires-2
-tail-requires-2 c κs = search needs
-
 returns-2 : tie.Need-returns-2
 returns-2 c =
     let x = c .before .before .before .args in
     cc (three-ED (x .a) (x .b) (x .c) 0 (c .before .if2 .taken))
-
-tail-requires-3 : tie.Need-tail-requires-3
-tail-requires-3 c κs = search needs
-
-tail-requires-4 : tie.Need-tail-requires-4
-tail-requires-4 c κs = search needs
 
 returns-3 : tie.Need-returns-3
 returns-3 c =
@@ -36,10 +24,10 @@ pub three-spec : {M : Type 1} → statement M
 three-spec =
     tie.close
     (tie.spec
-    tail-requires
+    (λ c κs. search needs)
     returns
-    tail-requires-2
+    (λ c κs. search needs)
     returns-2
-    tail-requires-3
-    tail-requires-4
+    (λ c κs. search needs)
+    (λ c κs. search needs)
     returns-3)

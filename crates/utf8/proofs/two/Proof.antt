@@ -4,12 +4,9 @@ use Rattle.utf8.specs.Utf8.{isTwo}
 use Rattle.utf8.proofs.two.Statement.{statement}
 use Rattle.utf8.proofs.two.Tie as tie
 
-tail-requires : tie.Need-tail-requires
-tail-requires c κs = search needs
-
 returns : tie.Need-returns
 unfolding isTwo
 returns c = cc
 
 pub two-spec : {M : Type 1} → statement M
-two-spec = tie.close (tie.spec tail-requires returns)
+two-spec = tie.close (tie.spec (λ c κs. search needs) returns)

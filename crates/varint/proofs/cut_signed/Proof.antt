@@ -29,29 +29,35 @@ module _ (u k : ℕ) (one : 1 ≤ k) (most : k < 64) {m : ℕ} (e : 2 ^ k ≡ m)
   high : m / 2 ≤ u % m → u % m + (2 ^ 64 - 1 - (m - 1)) ≡ wordOf (signedOf k u)
   high h =
       high-is
-      ∙ subst (λ (m : ℕ). m / 2 ≤ u % m → u % m + (2 ^ 64 - m) ≡ wordOf (signedOf k u)) e (λ h. sym (cut-high k u (omega arith) (omega (arith, pow-half k one)))) h
+      ∙ subst (λ (m : ℕ). m / 2 ≤ u % m → u % m + (2 ^ 64 - m) ≡ wordOf (signedOf k u)) e
+      (λ h. sym (cut-high k u (omega arith) (omega (arith, pow-half k one)))) h
 
 -- that of the code
 modulus-is : (s : tie.Start) → 2 ^ s .args .bits ≡ (1 * 2 ^ s .args .bits) % 2 ^ 64
 modulus-is s = sym (shl-exact 1 (s .args .bits) 64 (omega arith) (omega (arith, s .pre .1)) ∙ one-mul (2 ^ s .args .bits))
 
-shl-modulus : tie.Need-shl-modulus
-shl-modulus c = search needs
-
 rem-low : tie.Need-rem-low
 rem-low c = some (c .args .u) _ (c .pre .0) (c .pre .1) (modulus-is c)
 
 returns : tie.Need-returns
-returns c = let s = c .before in low (s .args .u) _ (s .pre .0) (s .pre .1) (modulus-is s) (c .if1 .taken)
+returns c =
+    let s = c .before in
+    low (s .args .u) _ (s .pre .0) (s .pre .1) (modulus-is s) (c .if1 .taken)
 
 sub-result : tie.Need-sub-result
-sub-result c = let s = c .before in some (s .args .u) _ (s .pre .0) (s .pre .1) (modulus-is s)
+sub-result c =
+    let s = c .before in
+    some (s .args .u) _ (s .pre .0) (s .pre .1) (modulus-is s)
 
 add-result : tie.Need-add-result
-add-result c = let s = c .before in record { fits = high-fits (s .args .u) _ (s .pre .0) (s .pre .1) (modulus-is s) }
+add-result c =
+    let s = c .before in
+    record { fits = high-fits (s .args .u) _ (s .pre .0) (s .pre .1) (modulus-is s) }
 
 returns-2 : tie.Need-returns-2
-returns-2 c = let s = c .before in high (s .args .u) _ (s .pre .0) (s .pre .1) (modulus-is s) (c .if1 .left)
+returns-2 c =
+    let s = c .before in
+    high (s .args .u) _ (s .pre .0) (s .pre .1) (modulus-is s) (c .if1 .left)
 
 pub cut-signed-spec : {M : Type 1} → statement M
-cut-signed-spec = tie.close (tie.spec shl-modulus rem-low returns sub-result add-result returns-2)
+cut-signed-spec = tie.close (tie.spec (λ c. search needs) rem-low returns sub-result add-result returns-2)

@@ -11,17 +11,11 @@ use Rattle.varint.specs.Laws.Signed.{signed-low, signed-high}
 use Rattle.varint.proofs.from_word.Statement.{statement}
 use Rattle.varint.proofs.from_word.Tie as tie
 
-cast-result : tie.Need-cast-result
-cast-result c = search needs
-
 returns : tie.Need-returns
 returns c =
     let u = c .before .args .u in
     let e : u % 2 ^ 64 ≡ u = omega arith in
     toZ-pos w64 (c .if1 .taken) ∙ ap pos (sym e) ∙ sym (signed-low 64 u (omega arith))
-
-cast-result-2 : tie.Need-cast-result-2
-cast-result-2 c = search needs
 
 returns-2 : tie.Need-returns-2
 returns-2 c =
@@ -32,4 +26,4 @@ returns-2 c =
     ap (toZ w64) e ∙ toZ-neg w64 k (omega arith) ∙ ap negsuc d ∙ sym (signed-high 64 u (omega arith))
 
 pub from-word-spec : {M : Type 1} → statement M
-from-word-spec = tie.close (tie.spec cast-result returns cast-result-2 returns-2)
+from-word-spec = tie.close (tie.spec (λ c. search needs) returns (λ c. search needs) returns-2)

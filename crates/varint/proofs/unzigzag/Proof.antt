@@ -6,12 +6,6 @@ use Rattle.varint.proofs.Signs.{minus-bit, unfold-is}
 use Rattle.varint.proofs.unzigzag.Statement.{statement}
 use Rattle.varint.proofs.unzigzag.Tie as tie
 
-cast-half : tie.Need-cast-half
-cast-half c = search needs
-
-cast-sign : tie.Need-cast-sign
-cast-sign c = search needs
-
 sub-sign : tie.Need-sub-sign
 sub-sign c = minus-bit (c .args .u % 2) (omega arith)
 
@@ -19,4 +13,4 @@ returns : tie.Need-returns
 returns c = unfold-is (c .args .u / 2) (c .args .u % 2) (omega arith) (omega arith)
 
 pub unzigzag-spec : {M : Type 1} → statement M
-unzigzag-spec = tie.close (tie.spec cast-half cast-sign sub-sign returns)
+unzigzag-spec = tie.close (tie.spec (λ c. search needs) (λ c. search needs) sub-sign returns)

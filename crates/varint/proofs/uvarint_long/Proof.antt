@@ -43,7 +43,8 @@ sum-fits v b shift hs hv =
     let j : ℕ = 64 - shift in
     let e : j + shift ≡ 64 = omega arith in
     let q : ℕ = b * 2 ^ shift / 2 ^ shift % 2 ^ j in
-    let m : (b * 2 ^ shift) % 2 ^ 64 ≡ q * 2 ^ shift + (b * 2 ^ shift) % 2 ^ shift = ap (λ (k : ℕ). (b * 2 ^ shift) % 2 ^ k) (sym e) ∙ mod-pow-add (b * 2 ^ shift) j shift in
+    let m : (b * 2 ^ shift) % 2 ^ 64 ≡ q * 2 ^ shift + (b * 2 ^ shift) % 2 ^ shift = ap (λ (k : ℕ). (b * 2 ^ shift) % 2 ^ k) (sym e)
+    ∙ mod-pow-add (b * 2 ^ shift) j shift in
     let p : 2 ^ j * 2 ^ shift ≡ 2 ^ 64 = sym (pow-add 2 j shift) ∙ ap (λ (k : ℕ). 2 ^ k) e in
     let d : q * 2 ^ shift + v < 2 ^ j * 2 ^ shift = digits-lt (mod-lt (b * 2 ^ shift / 2 ^ shift) (pow-pos j)) hv in
     omega (arith, mul-mod-left b (2 ^ shift))
@@ -116,21 +117,6 @@ module _ (s : List ℕ) (at end value shift i : ℕ) (inv : Sofar s at end value
   too-long : end ≤ i → 10 ≤ i - at → Refused 2 at ≡ varintOf s at
   too-long h l = sym (answer {m = zero} (omega (arith, inv)) _ (scan-none at _ _))
 
-sub-if1 : tie.Need-sub-if1 Inv-loop μ-loop
-sub-if1 c = search needs
-
-add-end : tie.Need-add-end Inv-loop μ-loop
-add-end c = search needs
-
-shared-slice-read-value : tie.Need-shared-slice-read-value Inv-loop μ-loop
-shared-slice-read-value c = search needs
-
-cast-value : tie.Need-cast-value Inv-loop μ-loop
-cast-value c = search needs
-
-add-i : tie.Need-add-i Inv-loop μ-loop
-add-i c = search needs
-
 loop-holds : tie.Need-loop-holds Inv-loop μ-loop
 loop-holds c =
     let p = c .before .before .pre in
@@ -142,9 +128,6 @@ loop-holds c =
 shared-slice-read-b : tie.Need-shared-slice-read-b Inv-loop μ-loop
 shared-slice-read-b c = omega (arith, c .before .before .loop .inv)
 
-cast-t16 : tie.Need-cast-t16 Inv-loop μ-loop
-cast-t16 c = search needs
-
 shl-t17 : tie.Need-shl-t17 Inv-loop μ-loop
 shl-t17 c = in-64 _ _ _ _ _ _ (c .before .before .before .loop .inv) (c .before .before .loop-test .taken)
 
@@ -153,14 +136,8 @@ add-t18 c =
     let l = c .before .before .before .loop in
     record { fits = sum-fits (l .value) _ (l .shift) (in-64 _ _ _ _ _ _ (l .inv) (c .before .before .loop-test .taken)) (l .inv .small) }
 
-add-t19 : tie.Need-add-t19 Inv-loop μ-loop
-add-t19 c = search needs
-
 returns : tie.Need-returns Inv-loop μ-loop
 returns c = last _ _ _ _ _ _ (c .before .before .before .loop .inv) (c .before .before .loop-test .taken) (c .if2 .taken)
-
-cast-value-2 : tie.Need-cast-value-2 Inv-loop μ-loop
-cast-value-2 c = search needs
 
 shl-value : tie.Need-shl-value Inv-loop μ-loop
 shl-value c = in-64 _ _ _ _ _ _ (c .before .before .before .loop .inv) (c .before .before .loop-test .taken)
@@ -172,9 +149,6 @@ add-value c =
 
 add-shift : tie.Need-add-shift Inv-loop μ-loop
 add-shift c = omega (arith, in-64 _ _ _ _ _ _ (c .before .before .before .loop .inv) (c .before .before .loop-test .taken))
-
-add-i-2 : tie.Need-add-i-2 Inv-loop μ-loop
-add-i-2 c = search needs
 
 loop-less : tie.Need-loop-less Inv-loop μ-loop
 loop-less c = omega arith
@@ -197,23 +171,23 @@ uvarint-long-spec =
     (tie.spec
     Inv-loop
     μ-loop
-    sub-if1
-    add-end
-    shared-slice-read-value
-    cast-value
-    add-i
+    (λ c. search needs)
+    (λ c. search needs)
+    (λ c. search needs)
+    (λ c. search needs)
+    (λ c. search needs)
     loop-holds
     shared-slice-read-b
-    cast-t16
+    (λ c. search needs)
     shl-t17
     add-t18
-    add-t19
+    (λ c. search needs)
     returns
-    cast-value-2
+    (λ c. search needs)
     shl-value
     add-value
     add-shift
-    add-i-2
+    (λ c. search needs)
     loop-less
     loop-again
     sub-if3

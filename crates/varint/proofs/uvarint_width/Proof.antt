@@ -12,14 +12,8 @@ sub-bits c = leading-le 64 (c .args .n)
 returns : tie.Need-returns
 returns c = uleb-width (c .before .args .n) 1 (search needs) (search needs) (search needs) (search needs)
 
-add-result : tie.Need-add-result
-add-result c = search needs
-
-cast-result : tie.Need-cast-result
-cast-result c = search needs
-
 returns-2 : tie.Need-returns-2
 returns-2 c = uleb-width (c .before .args .n) _ (search needs) (omega (arith, c .if1 .left)) (omega (arith, c .if1 .left)) (omega (arith, c .if1 .left))
 
 pub uvarint-width-spec : {M : Type 1} → statement M
-uvarint-width-spec = tie.close (tie.spec sub-bits returns add-result cast-result returns-2)
+uvarint-width-spec = tie.close (tie.spec sub-bits returns (λ c. search needs) (λ c. search needs) returns-2)

@@ -20,77 +20,18 @@ abbrev μ-loop : tie.MeasureT-loop
 returns : tie.Need-returns Inv-loop μ-loop
 returns c = counted-none _ (c .if1 .taken)
 
-sub-last : tie.Need-sub-last Inv-loop μ-loop
-sub-last c = search needs
-
-loop-holds : tie.Need-loop-holds Inv-loop μ-loop
-loop-holds c = search needs
-
-mul-if2 : tie.Need-mul-if2 Inv-loop μ-loop
-mul-if2 c = search needs
-
-mul-if2-2 : tie.Need-mul-if2-2 Inv-loop μ-loop
-mul-if2-2 c = search needs
-
-shared-slice-read-if2 : tie.Need-shared-slice-read-if2 Inv-loop μ-loop
-shared-slice-read-if2 c = search needs
-
-mul-if2-3 : tie.Need-mul-if2-3 Inv-loop μ-loop
-mul-if2-3 c = search needs
-
-add-if2 : tie.Need-add-if2 Inv-loop μ-loop
-add-if2 c = search needs
-
-mul-if2-4 : tie.Need-mul-if2-4 Inv-loop μ-loop
-mul-if2-4 c = search needs
-
-shared-slice-read-if2-2 : tie.Need-shared-slice-read-if2-2 Inv-loop μ-loop
-shared-slice-read-if2-2 c = search needs
-
-mul-if2-5 : tie.Need-mul-if2-5 Inv-loop μ-loop
-mul-if2-5 c = search needs
-
-add-if2-2 : tie.Need-add-if2-2 Inv-loop μ-loop
-add-if2-2 c = search needs
-
-mul-if2-6 : tie.Need-mul-if2-6 Inv-loop μ-loop
-mul-if2-6 c = search needs
-
-shared-slice-read-if2-3 : tie.Need-shared-slice-read-if2-3 Inv-loop μ-loop
-shared-slice-read-if2-3 c = search needs
-
-mul-if2-7 : tie.Need-mul-if2-7 Inv-loop μ-loop
-mul-if2-7 c = search needs
-
-add-if2-3 : tie.Need-add-if2-3 Inv-loop μ-loop
-add-if2-3 c = search needs
-
-mul-if2-8 : tie.Need-mul-if2-8 Inv-loop μ-loop
-mul-if2-8 c = search needs
-
-shared-slice-read-if2-4 : tie.Need-shared-slice-read-if2-4 Inv-loop μ-loop
-shared-slice-read-if2-4 c = search needs
-
-add-n : tie.Need-add-n Inv-loop μ-loop
-add-n c = search needs
-
-add-k : tie.Need-add-k Inv-loop μ-loop
-add-k c = search needs
-
-loop-less : tie.Need-loop-less Inv-loop μ-loop
-loop-less c = search needs
-
 loop-again : tie.Need-loop-again Inv-loop μ-loop
 loop-again c =
-    let w = c .before .before .before .before .before .before .before .before .args .spans .now in
     let l = c .before .before .before .before .before .before .loop in
+    let w = c .before .before .before .before .before .before .before .before .args .spans .now in
     ⊎-elim
     (λ x. counted-next w (l .k) (l .n) (c .if2 .n) _ true (l .inv) (omega arith) (x .0 .taken) (x .1))
     (λ x. counted-next w (l .k) (l .n) (c .if2 .n) _ false (l .inv) (omega arith) (x .0 .left) (omega (arith, x .1)))
     (c .if2 .came)
 
 returns-2 : tie.Need-returns-2 Inv-loop μ-loop
-returns-2 c = counted-end (c .before .before .before .args .spans .now) (c .before .loop .k) (c .before .loop .n) _ (omega arith) (c .before .loop .inv) (omega arith)
+returns-2 c =
+    counted-end (c .before .before .before .args .spans .now) (c .before .loop .k) (c .before .loop .n) _ (omega arith) (c .before .loop .inv) (omega arith)
 
 pub count-runs-spec : {M : Type 1} → statement M
 count-runs-spec =
@@ -99,25 +40,25 @@ count-runs-spec =
     Inv-loop
     μ-loop
     returns
-    sub-last
-    loop-holds
-    mul-if2
-    mul-if2-2
-    shared-slice-read-if2
-    mul-if2-3
-    add-if2
-    mul-if2-4
-    shared-slice-read-if2-2
-    mul-if2-5
-    add-if2-2
-    mul-if2-6
-    shared-slice-read-if2-3
-    mul-if2-7
-    add-if2-3
-    mul-if2-8
-    shared-slice-read-if2-4
-    add-n
-    add-k
-    loop-less
+    (λ c. search needs)
+    (λ c. search needs)
+    (λ c. search needs)
+    (λ c. search needs)
+    (λ c. search needs)
+    (λ c. search needs)
+    (λ c. search needs)
+    (λ c. search needs)
+    (λ c. search needs)
+    (λ c. search needs)
+    (λ c. search needs)
+    (λ c. search needs)
+    (λ c. search needs)
+    (λ c. search needs)
+    (λ c. search needs)
+    (λ c. search needs)
+    (λ c. search needs)
+    (λ c. search needs)
+    (λ c. search needs)
+    (λ c. search needs)
     loop-again
     returns-2)

@@ -12,27 +12,6 @@ unfolding _and_
 both true q = refl
 both false q = refl
 
-mul-result : tie.Need-mul-result
-mul-result c = search needs
-
-mul-result-2 : tie.Need-mul-result-2
-mul-result-2 c = search needs
-
-shared-slice-read-result : tie.Need-shared-slice-read-result
-shared-slice-read-result c = search needs
-
-mul-result-3 : tie.Need-mul-result-3
-mul-result-3 c = search needs
-
-add-result : tie.Need-add-result
-add-result c = search needs
-
-mul-result-4 : tie.Need-mul-result-4
-mul-result-4 c = search needs
-
-shared-slice-read-result-2 : tie.Need-shared-slice-read-result-2
-shared-slice-read-result-2 c = search needs
-
 returns : tie.Need-returns
 unfolding sameSpan
 returns c = both _ _
@@ -41,11 +20,11 @@ pub is-span-spec : {M : Type 1} → statement M
 is-span-spec =
     tie.close
     (tie.spec
-    mul-result
-    mul-result-2
-    shared-slice-read-result
-    mul-result-3
-    add-result
-    mul-result-4
-    shared-slice-read-result-2
+    (λ c. search needs)
+    (λ c. search needs)
+    (λ c. search needs)
+    (λ c. search needs)
+    (λ c. search needs)
+    (λ c. search needs)
+    (λ c. search needs)
     returns)

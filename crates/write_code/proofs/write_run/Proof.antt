@@ -9,28 +9,21 @@ use Rattle.emit.specs.Laws.Emit.{emitted-as}
 use Rattle.write_code.proofs.write_run.Statement.{statement}
 use Rattle.write_code.proofs.write_run.Tie as tie
 
-zigzag-delta-requires : tie.Need-zigzag-delta-requires
-zigzag-delta-requires c κs = search needs
-
-zigzag-delta-requires-2 : tie.Need-zigzag-delta-requires-2
-zigzag-delta-requires-2 c κs = search needs
-
-emit-three-varints-requires : tie.Need-emit-three-varints-requires
-emit-three-varints-requires c κs = search needs
-
-same-length : tie.Need-same-length
-same-length c = search needs
-
 returns : tie.Need-returns
 unfolding writeDelta
-returns c = emitted-as (ap₂ (λ (x y : ℕ). (uleb128 x ++ uleb128 y) ++ uleb128 (c .before .before .before .before .before .before .before .before .args .n)) (c .before .before .before .before .zigzag-delta .ensures) (c .before .before .before .zigzag-delta2 .ensures)) (c .before .before .emit-three-varints .ensures)
+returns c =
+    let at-zigzag-delta = c .before .before .before .before in
+    let args = at-zigzag-delta .before .before .before .before .args in
+    emitted-as
+    (ap₂ (λ (x y : ℕ). (uleb128 x ++ uleb128 y) ++ uleb128 (args .n)) (at-zigzag-delta .zigzag-delta .ensures)
+    (c .before .before .before .zigzag-delta2 .ensures)) (c .before .before .emit-three-varints .ensures)
 
 pub write-run-spec : {M : Type 1} → statement M
 write-run-spec =
     tie.close
     (tie.spec
-    zigzag-delta-requires
-    zigzag-delta-requires-2
-    emit-three-varints-requires
-    same-length
+    (λ c κs. search needs)
+    (λ c κs. search needs)
+    (λ c κs. search needs)
+    (λ c. search needs)
     returns)

@@ -12,72 +12,47 @@ use Rattle.write_code.proofs.write_runs.Statement.{statement}
 use Rattle.write_code.proofs.write_runs.Tie as tie
 
 abbrev Inv-loop : tie.InvT-loop
-Inv-loop comparing payload out₀ spans count at₀ start₀ end₀ k₀ out at start end k = Emitting comparing payload (emit comparing payload (output out₀ at₀) (runsFrom spans 0 0 0)) out₀ out at (runsFrom spans k start end) × Running (length spans / 2) k start end
+Inv-loop comparing payload out₀ spans count at₀ start₀ end₀ k₀ out at start end k =
+    Emitting comparing payload (emit comparing payload (output out₀ at₀) (runsFrom spans 0 0 0)) out₀ out at (runsFrom spans k start end)
+    × Running (length spans / 2) k start end
 
 abbrev μ-loop : tie.MeasureT-loop
 μ-loop comparing payload out₀ spans count at₀ start₀ end₀ k₀ out at start end k = length spans / 2 - k
 
-count-runs-requires : tie.Need-count-runs-requires Inv-loop μ-loop
-count-runs-requires c κs = search needs
-
-emit-varint-requires : tie.Need-emit-varint-requires Inv-loop μ-loop
-emit-varint-requires c κs = search needs
-
 loop-holds : tie.Need-loop-holds Inv-loop μ-loop
-loop-holds c = (emitting-start (emitted-ready (c .before .before .before .before .before .before .before .before .pre .0 .room) (c .before .before .emit-varint .ensures)), record { upto = omega arith; low = omega arith; high = omega arith })
-
-mul-a : tie.Need-mul-a Inv-loop μ-loop
-mul-a c = search needs
-
-mul-a-2 : tie.Need-mul-a-2 Inv-loop μ-loop
-mul-a-2 c = search needs
-
-shared-slice-read-a : tie.Need-shared-slice-read-a Inv-loop μ-loop
-shared-slice-read-a c = search needs
-
-mul-b : tie.Need-mul-b Inv-loop μ-loop
-mul-b c = search needs
-
-add-b : tie.Need-add-b Inv-loop μ-loop
-add-b c = search needs
-
-mul-b-2 : tie.Need-mul-b-2 Inv-loop μ-loop
-mul-b-2 c = search needs
-
-shared-slice-read-b : tie.Need-shared-slice-read-b Inv-loop μ-loop
-shared-slice-read-b c = search needs
-
-run-end-requires : tie.Need-run-end-requires Inv-loop μ-loop
-run-end-requires c κs = search needs
-
-sub-write-run : tie.Need-sub-write-run Inv-loop μ-loop
-sub-write-run c = search needs
+loop-holds c =
+    let pre = c .before .before .before .before .before .before .before .before .pre in (
+      emitting-start (emitted-ready (pre .0 .room) (c .before .before .emit-varint .ensures)),
+      record { upto = omega arith; low = omega arith; high = omega arith },
+    )
 
 write-run-requires : tie.Need-write-run-requires Inv-loop μ-loop
 write-run-requires c κs =
-    let p = c .before .before .before .before .before .before .before .before .before .before .before .before .before .before .pre .1 in
     let l = c .before .before .before .before .before .loop in
+    let p = c .before .before .before .before .before .before .before .before .before .before .before .before .before .before .pre .1 in
     (emitting-ready (l .inv .0), (l .inv .1 .low, (l .inv .1 .high, (p (2 * l .k), p (2 * l .k + 1)))))
-
-loop-less : tie.Need-loop-less Inv-loop μ-loop
-loop-less c = search needs
 
 loop-again : tie.Need-loop-again Inv-loop μ-loop
 loop-again c =
-    let w = c .before .before .before .before .before .before .before .before .before .before .before .before .before .before .before .before .before .args .spans .now in
-    let p = c .before .before .before .before .before .before .before .before .before .before .before .before .before .before .before .before .before .pre .1 in
-    let l = c .before .before .before .before .before .before .before .before .loop in
-    let t = c .before .before .before .before .run-end .ensures in
-    (emitting-next (l .inv .0) (runs-from-run w (l .k) _ (l .start) (l .end) (omega arith) t) (c .before .before .write-run .ensures), record { upto = t .within; low = p (2 * l .k); high = p (2 * l .k + 1) })
-
-same-length : tie.Need-same-length Inv-loop μ-loop
-same-length c = search needs
+    let at-loop = c .before .before .before .before .before .before .before .before in
+    let l = at-loop .loop in
+    let start = at-loop .before .before .before .before .before .before .before .before .before in
+    let w = start .args .spans .now in
+    let p = start .pre .1 in
+    let t = c .before .before .before .before .run-end .ensures in (
+      emitting-next (l .inv .0) (runs-from-run w (l .k) _ (l .start) (l .end) (omega arith) t) (c .before .before .write-run .ensures),
+      record { upto = t .within; low = p (2 * l .k); high = p (2 * l .k + 1) },
+    )
 
 returns : tie.Need-returns Inv-loop μ-loop
 returns c =
-    let w = c .before .before .before .before .before .before .before .before .before .before .args .spans .now in
     let l = c .before .loop in
-    emitted-as (sym (runs-from-all w)) (emitted-then (c .before .before .before .before .before .before .before .before .before .before .pre .0 .room) (emitted-as (ap uleb128 (c .before .before .before .before .before .count-runs .ensures)) (c .before .before .before .before .emit-varint .ensures))
+    let at-emit-varint = c .before .before .before .before in
+    let count-runs = at-emit-varint .before .count-runs in
+    let start = at-emit-varint .before .before .before .before .before .before in
+    let w = start .args .spans .now in
+    emitted-as (sym (runs-from-all w))
+    (emitted-then (start .pre .0 .room) (emitted-as (ap uleb128 (count-runs .ensures)) (at-emit-varint .emit-varint .ensures))
     (emitting-end (l .inv .0) (runs-from-end w (l .k) (l .start) (l .end) (omega arith))))
 
 pub write-runs-spec : {M : Type 1} → statement M
@@ -86,20 +61,20 @@ write-runs-spec =
     (tie.spec
     Inv-loop
     μ-loop
-    count-runs-requires
-    emit-varint-requires
+    (λ c κs. search needs)
+    (λ c κs. search needs)
     loop-holds
-    mul-a
-    mul-a-2
-    shared-slice-read-a
-    mul-b
-    add-b
-    mul-b-2
-    shared-slice-read-b
-    run-end-requires
-    sub-write-run
+    (λ c. search needs)
+    (λ c. search needs)
+    (λ c. search needs)
+    (λ c. search needs)
+    (λ c. search needs)
+    (λ c. search needs)
+    (λ c. search needs)
+    (λ c κs. search needs)
+    (λ c. search needs)
     write-run-requires
-    loop-less
+    (λ c. search needs)
     loop-again
-    same-length
+    (λ c. search needs)
     returns)

@@ -25,23 +25,15 @@ small a (suc b) h l = go (ltb a (suc b)) refl
 apart : (a b : ℕ) → a < 2 ^ 63 → b < 2 ^ 63 → SFits w64 (toZ w64 a -ℤ toZ w64 b)
 apart a b h l = record { sfits = rw (toZ-pos w64 h, toZ-pos w64 l) (small a b h l) }
 
-cast-zigzag : tie.Need-cast-zigzag
-cast-zigzag c = search needs
-
-cast-zigzag-2 : tie.Need-cast-zigzag-2
-cast-zigzag-2 c = search needs
-
 sub-zigzag : tie.Need-sub-zigzag
 sub-zigzag c = apart (c .args .new) (c .args .old) (c .pre .1) (c .pre .0)
-
-zigzag-requires : tie.Need-zigzag-requires
-zigzag-requires c κs = search needs
 
 returns : tie.Need-returns
 returns c =
     let h = c .before .pre in
-    c .zigzag .ensures ∙ ap zigzagOf (toZ-ofZ (apart (c .before .args .new) (c .before .args .old) (h .1) (h .0)) ∙ ap₂ _-ℤ_ (toZ-pos w64 (h .1)) (toZ-pos w64 (h .0)))
+    c .zigzag .ensures
+    ∙ ap zigzagOf (toZ-ofZ (apart (c .before .args .new) (c .before .args .old) (h .1) (h .0)) ∙ ap₂ _-ℤ_ (toZ-pos w64 (h .1)) (toZ-pos w64 (h .0)))
 
 pub zigzag-delta-spec : {M : Type 1} → statement M
 zigzag-delta-spec =
-    tie.close (tie.spec cast-zigzag cast-zigzag-2 sub-zigzag zigzag-requires returns)
+    tie.close (tie.spec (λ c. search needs) (λ c. search needs) sub-zigzag (λ c κs. search needs) returns)

@@ -6,18 +6,6 @@ use Rattle.write_rows.specs.Walk.{rowWord}
 use Rattle.write_rows.proofs.word_at.Statement.{statement}
 use Rattle.write_rows.proofs.word_at.Tie as tie
 
-mul-result : tie.Need-mul-result
-mul-result c = search needs
-
-add-result : tie.Need-add-result
-add-result c = search needs
-
-mul-result-2 : tie.Need-mul-result-2
-mul-result-2 c = search needs
-
-shared-slice-read-result : tie.Need-shared-slice-read-result
-shared-slice-read-result c = search needs
-
 returns : tie.Need-returns
 unfolding rowWord if_then_else_
 returns c = rw (lt-ltb (c .before .before .args .k) 5 (c .before .if1 .taken))
@@ -29,4 +17,4 @@ returns-2 c = rw (le-ltb (c .before .args .k) 5 (c .if1 .left))
 pub word-at-spec : {M : Type 1} → statement M
 word-at-spec =
     tie.close
-    (tie.spec mul-result add-result mul-result-2 shared-slice-read-result returns returns-2)
+    (tie.spec (λ c. search needs) (λ c. search needs) (λ c. search needs) (λ c. search needs) returns returns-2)

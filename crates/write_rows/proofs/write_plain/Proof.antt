@@ -8,32 +8,24 @@ use Rattle.write_rows.specs.Walk.{itemBytes}
 use Rattle.write_rows.proofs.write_plain.Statement.{statement}
 use Rattle.write_rows.proofs.write_plain.Tie as tie
 
-write-index-requires : tie.Need-write-index-requires
-write-index-requires c κs = search needs
-
-same-length : tie.Need-same-length
-same-length c = search needs
-
 returns : tie.Need-returns
 unfolding itemBytes if_then_else_
-returns c = rw (c .before .before .before .before .if1 .taken) (c .before .before .write-index .ensures)
-
-write-number-requires : tie.Need-write-number-requires
-write-number-requires c κs = search needs
-
-same-length-2 : tie.Need-same-length-2
-same-length-2 c = search needs
+returns c =
+    let if1 = c .before .before .before .before .if1 in
+    rw (if1 .taken) (c .before .before .write-index .ensures)
 
 returns-2 : tie.Need-returns-2
-returns-2 c = emitted-as (item-number _ _ _ (c .before .before .before .before .before .before .before .before .before .args .form) (c .before .before .before .before .before .before .before .before .before .args .a) (c .before .before .before .before .before .before .before .before .before .args .b) (omega arith)) (c .before .before .write-number .ensures)
+returns-2 c =
+    let args = c .before .before .before .before .before .before .before .before .before .args in
+    emitted-as (item-number _ _ _ (args .form) (args .a) (args .b) (omega arith)) (c .before .before .write-number .ensures)
 
 pub write-plain-spec : {M : Type 1} → statement M
 write-plain-spec =
     tie.close
     (tie.spec
-    write-index-requires
-    same-length
+    (λ c κs. search needs)
+    (λ c. search needs)
     returns
-    write-number-requires
-    same-length-2
+    (λ c κs. search needs)
+    (λ c. search needs)
     returns-2)

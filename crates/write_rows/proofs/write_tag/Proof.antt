@@ -7,23 +7,19 @@ use Rattle.emit.specs.Laws.Emit.{emitted-none}
 use Rattle.write_rows.proofs.write_tag.Statement.{statement}
 use Rattle.write_rows.proofs.write_tag.Tie as tie
 
-cast-emit-byte : tie.Need-cast-emit-byte
-cast-emit-byte c = search needs
-
-emit-byte-requires : tie.Need-emit-byte-requires
-emit-byte-requires c κs = search needs
-
-same-length : tie.Need-same-length
-same-length c = search needs
-
 returns : tie.Need-returns
 unfolding tagByte if_then_else_
-returns c = rw (le-leb (c .before .before .before .before .before .before .before .args .tag) 26 (c .before .before .before .before .if1 .taken)) (c .before .before .emit-byte .ensures)
+returns c =
+    let at-if1 = c .before .before .before .before in
+    let args = at-if1 .before .before .before .args in
+    rw (le-leb (args .tag) 26 (at-if1 .if1 .taken)) (c .before .before .emit-byte .ensures)
 
 returns-2 : tie.Need-returns-2
 unfolding tagByte if_then_else_
-returns-2 c = rw (lt-leb (c .before .before .before .args .tag) 26 (c .if1 .left)) (emitted-none (c .before .before .before .pre .place))
+returns-2 c =
+    let start = c .before .before .before in
+    rw (lt-leb (start .args .tag) 26 (c .if1 .left)) (emitted-none (start .pre .place))
 
 pub write-tag-spec : {M : Type 1} → statement M
 write-tag-spec =
-    tie.close (tie.spec cast-emit-byte emit-byte-requires same-length returns returns-2)
+    tie.close (tie.spec (λ c. search needs) (λ c κs. search needs) (λ c. search needs) returns returns-2)

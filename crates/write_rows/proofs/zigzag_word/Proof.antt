@@ -11,14 +11,11 @@ use Rattle.varint.specs.Signed.{zigzagOf}
 use Rattle.write_rows.proofs.zigzag_word.Statement.{statement}
 use Rattle.write_rows.proofs.zigzag_word.Tie as tie
 
-from-word-requires : tie.Need-from-word-requires
-from-word-requires c κs = search needs
-
-zigzag-requires : tie.Need-zigzag-requires
-zigzag-requires c κs = search needs
-
 returns : tie.Need-returns
-returns c = let e = c .before .from-word .ensures in c .zigzag .ensures ∙ ap zigzagOf (toZ-ofZ (record { sfits = subst (λ (z : ℤ). mag z < 2 ^ 63) (sym e) (signed-range 64 (c .before .before .args .w) (omega arith)) }) ∙ e)
+returns c =
+    let e = c .before .from-word .ensures in
+    c .zigzag .ensures
+    ∙ ap zigzagOf (toZ-ofZ (record { sfits = subst (λ (z : ℤ). mag z < 2 ^ 63) (sym e) (signed-range 64 (c .before .before .args .w) (omega arith)) }) ∙ e)
 
 pub zigzag-word-spec : {M : Type 1} → statement M
-zigzag-word-spec = tie.close (tie.spec from-word-requires zigzag-requires returns)
+zigzag-word-spec = tie.close (tie.spec (λ c κs. search needs) (λ c κs. search needs) returns)

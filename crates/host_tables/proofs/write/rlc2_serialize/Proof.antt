@@ -7,13 +7,23 @@ use Rattle.host_tables.proofs.write.rlc2_serialize.Tie as tie
 
 returns : tie.Need-returns
 returns c =
-    let a = c .before .before .before .before .before .before .before .before .before .before .before .before .before .before .before .before .before .before .before .before .before .before .before .before .args in
-    host-answer (a .pool .now) (a .out .now) (a .answer .now) (leaves-host (a .store .now) (a .counts .now) (a .rows .now) (a .spans .now) (a .starts .now) (a .pool .now) (a .out .now) (c .before .before .before .before .before .before .before .before .before .before .before .before .before .before .before .program-of .ensures) (c .before .before .before .before .before .before .before .before .before .before .before .before .serialize-payload .ensures)) (c .before .before .before .before .before .before .length .given .1) (c .before .before .put-fields .ensures)
+    let at-length = c .before .before .before .before .before .before in
+    let at-serialize-payload = at-length .before .before .before .before .before .before in
+    let program-of = at-serialize-payload .before .before .before .program-of in
+    let a = at-serialize-payload .before .before .before .before .before .before .before .before .before .before .before .before .args in
+    host-answer (a .pool .now) (a .out .now) (a .answer .now)
+    (leaves-host (a .store .now) (a .counts .now) (a .rows .now) (a .spans .now) (a .starts .now) (a .pool .now) (a .out .now) (program-of .ensures)
+    (at-serialize-payload .serialize-payload .ensures)) (at-length .length .given .1) (c .before .before .put-fields .ensures)
 
 returns-2 : tie.Need-returns-2
 returns-2 c =
-    let a = c .before .before .before .before .before .before .before .before .before .before .before .before .before .before .before .before .before .before .before .before .before .before .before .before .args in
-    host-answer (a .pool .now) (a .out .now) (a .answer .now) (leaves-host (a .store .now) (a .counts .now) (a .rows .now) (a .spans .now) (a .starts .now) (a .pool .now) (a .out .now) (c .before .before .before .before .before .before .before .before .before .before .before .before .before .before .before .program-of .ensures) (c .before .before .before .before .before .before .before .before .before .before .before .before .serialize-payload .ensures)) (c .before .before .before .before .before .before .number .given .1) (c .before .before .put-fields2 .ensures)
+    let at-number = c .before .before .before .before .before .before in
+    let at-serialize-payload = at-number .before .before .before .before .before .before in
+    let program-of = at-serialize-payload .before .before .before .program-of in
+    let a = at-serialize-payload .before .before .before .before .before .before .before .before .before .before .before .before .args in
+    host-answer (a .pool .now) (a .out .now) (a .answer .now)
+    (leaves-host (a .store .now) (a .counts .now) (a .rows .now) (a .spans .now) (a .starts .now) (a .pool .now) (a .out .now) (program-of .ensures)
+    (at-serialize-payload .serialize-payload .ensures)) (at-number .number .given .1) (c .before .before .put-fields2 .ensures)
 
 pub rlc2-serialize-spec : {M : Type 1} → statement M
 rlc2-serialize-spec =

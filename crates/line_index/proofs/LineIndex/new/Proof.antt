@@ -9,18 +9,6 @@ use Rattle.line_index.specs.LineIndex.{countOf}
 use Rattle.line_index.proofs.LineIndex.new.Statement.{statement}
 use Rattle.line_index.proofs.LineIndex.new.Tie as tie
 
-line-starts-requires : tie.Need-line-starts-requires
-line-starts-requires c κs = search needs
-
-count-requires : tie.Need-count-requires
-count-requires c κs = search needs
-
-zero-u32-from-requires : tie.Need-zero-u32-from-requires
-zero-u32-from-requires c κs = search needs
-
-same-length : tie.Need-same-length
-same-length c = search needs
-
 returns : tie.Need-returns
 returns c =
     let made = c .before .before .before .before .before .before .before .line-starts in
@@ -33,4 +21,4 @@ returns c =
 pub new-spec : {M : Type 1} → statement M
 new-spec =
     tie.close
-    (tie.spec line-starts-requires count-requires zero-u32-from-requires same-length returns)
+    (tie.spec (λ c κs. search needs) (λ c κs. search needs) (λ c κs. search needs) (λ c. search needs) returns)

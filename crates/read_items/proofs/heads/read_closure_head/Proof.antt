@@ -13,14 +13,18 @@ use Rattle.read_items.proofs.heads.read_closure_head.Tie as tie
 returns : tie.Need-returns
 unfolding kindOf
 returns c =
-    let start = was-read (c .before .before .before .before .before .start .given .1) (c .before .before .before .before .before .before .before .read-cut .ensures) in
+    let at-start = c .before .before .before .before .before in
+    let read-cut = at-start .before .before .read-cut in
+    let start = was-read (at-start .start .given .1) (read-cut .ensures) in
     let count = was-read (c .before .count .given .1) (c .before .before .before .read-uvarint .ensures) in
     λ names pool. record { out = head-closure start count }
 
 returns-2 : tie.Need-returns-2
 unfolding shapeOf kindsOf readCount kindOf
 returns-2 c =
-    let start = was-read (c .before .before .before .before .before .start .given .1) (c .before .before .before .before .before .before .before .read-cut .ensures) in
+    let at-start = c .before .before .before .before .before in
+    let read-cut = at-start .before .before .read-cut in
+    let start = was-read (at-start .start .given .1) (read-cut .ensures) in
     let count = was-refused (c .before .n .given .1) (c .before .before .before .read-uvarint .ensures) in
     λ names pool. record { out = λ cs. head-count-stop _ _ (items-one _ _ (item-number _ u16 start)) count }
 

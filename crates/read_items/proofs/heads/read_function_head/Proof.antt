@@ -11,14 +11,19 @@ use Rattle.read_items.proofs.heads.read_function_head.Tie as tie
 
 returns : tie.Need-returns
 returns c =
-    let part = was-part (c .before .before .before .before .before .o .given .1) (c .before .before .before .before .before .before .before .read-pool-index .ensures) in
-    let inside = part-inside (c .before .before .before .before .before .o .given .1) (c .before .before .before .before .before .before .before .read-pool-index .ensures) in
+    let at-o = c .before .before .before .before .before in
+    let o = at-o .o in
+    let read-pool-index = at-o .before .before .read-pool-index in
+    let part = was-part (o .given .1) (read-pool-index .ensures) in
+    let inside = part-inside (o .given .1) (read-pool-index .ensures) in
     λ names. record { out = head-function _ _ (part names) inside (was-read (c .before .arity .given .1) (c .before .before .before .read-uvarint .ensures)) }
 
 returns-2 : tie.Need-returns-2
 unfolding shapeOf kindsOf readNumber
 returns-2 c =
-    let part = was-part (c .before .before .before .before .before .o .given .1) (c .before .before .before .before .before .before .before .read-pool-index .ensures) in
+    let at-o = c .before .before .before .before .before in
+    let read-pool-index = at-o .before .before .read-pool-index in
+    let part = was-part (at-o .o .given .1) (read-pool-index .ensures) in
     let arity = was-refused (c .before .n .given .1) (c .before .before .before .read-uvarint .ensures) in
     λ names. record { out = λ cs. head-stop _ _ (items-later _ _ _ (item-string _ (part names cs)) (items-first _ _ _ (item-number-stop _ u64 arity))) }
 

@@ -13,15 +13,19 @@ is-listed-requires c κs = part-inside (c .before .o .given .1) (c .before .befo
 
 returns : tie.Need-returns
 returns c =
-    let part = was-part (c .before .before .before .o .given .1) (c .before .before .before .before .before .read-pool-index .ensures) in
-    let inside = part-inside (c .before .before .before .o .given .1) (c .before .before .before .before .before .read-pool-index .ensures) in
+    let o = c .before .before .before .o in
+    let read-pool-index = c .before .before .before .before .before .read-pool-index in
+    let part = was-part (o .given .1) (read-pool-index .ensures) in
+    let inside = part-inside (o .given .1) (read-pool-index .ensures) in
     let names = c .before .before .before .before .before .before .before .before .before .args .names .now in
     record { out = head-native _ _ (part names) inside (sym (c .before .is-listed .ensures) ∙ c .if1 .taken) }
 
 returns-2 : tie.Need-returns-2
 returns-2 c =
-    let part = was-part (c .before .before .before .o .given .1) (c .before .before .before .before .before .read-pool-index .ensures) in
-    let inside = part-inside (c .before .before .before .o .given .1) (c .before .before .before .before .before .read-pool-index .ensures) in
+    let o = c .before .before .before .o in
+    let read-pool-index = c .before .before .before .before .before .read-pool-index in
+    let part = was-part (o .given .1) (read-pool-index .ensures) in
+    let inside = part-inside (o .given .1) (read-pool-index .ensures) in
     let names = c .before .before .before .before .before .before .before .before .before .args .names .now in
     head-native-not _ _ (part names) inside (sym (c .before .is-listed .ensures) ∙ c .if1 .left)
 

@@ -9,18 +9,25 @@ use Rattle.read_items.proofs.heads.read_tag_head.Tie as tie
 
 returns : tie.Need-returns
 returns c =
-    let part = was-part (c .before .before .before .before .before .o .given .1) (c .before .before .before .before .before .before .before .read-pool-index .ensures) in
-    let inside = part-inside (c .before .before .before .before .before .o .given .1) (c .before .before .before .before .before .before .before .read-pool-index .ensures) in
-    let variant = was-part (c .before .variant-o .given .1) (c .before .before .before .read-pool-index2 .ensures) in
-    let variant-inside = part-inside (c .before .variant-o .given .1) (c .before .before .before .read-pool-index2 .ensures) in
+    let read-pool-index2 = c .before .before .before .read-pool-index2 in
+    let at-o = c .before .before .before .before .before in
+    let o = at-o .o in
+    let read-pool-index = at-o .before .before .read-pool-index in
+    let part = was-part (o .given .1) (read-pool-index .ensures) in
+    let inside = part-inside (o .given .1) (read-pool-index .ensures) in
+    let variant = was-part (c .before .variant-o .given .1) (read-pool-index2 .ensures) in
+    let variant-inside = part-inside (c .before .variant-o .given .1) (read-pool-index2 .ensures) in
     λ names. record { out = head-tag _ _ (part names) inside (variant names) variant-inside }
 
 returns-2 : tie.Need-returns-2
 unfolding shapeOf kindsOf
 returns-2 c =
-    let part = was-part (c .before .before .before .before .before .o .given .1) (c .before .before .before .before .before .before .before .read-pool-index .ensures) in
+    let at-o = c .before .before .before .before .before in
+    let read-pool-index = at-o .before .before .read-pool-index in
+    let part = was-part (at-o .o .given .1) (read-pool-index .ensures) in
     let variant = no-part (c .before .n .given .1) (c .before .before .before .read-pool-index2 .ensures) in
-    λ names. record { out = λ cs. head-stop _ _ (items-later _ _ _ (item-string _ (part names cs)) (items-first _ _ _ (item-string-stop _ (variant names cs)))) }
+    λ names.
+    record { out = λ cs. head-stop _ _ (items-later _ _ _ (item-string _ (part names cs)) (items-first _ _ _ (item-string-stop _ (variant names cs)))) }
 
 returns-3 : tie.Need-returns-3
 unfolding shapeOf kindsOf

@@ -9,7 +9,9 @@ cast-t7 : tie.Need-cast-t7
 cast-t7 c = omega (arith, c .shared-slice-known .given (c .before .before .args .at))
 
 returns : tie.Need-returns
-returns c = reads-byte (c .before .before .args .bytes .now) (c .before .before .args .at) (c .before .if1 .taken)
+returns c =
+    let args = c .before .before .args in
+    reads-byte (args .bytes .now) (args .at) (c .before .if1 .taken)
 
 returns-2 : tie.Need-returns-2
 returns-2 c = reads-byte-end (c .before .args .bytes .now) (c .before .args .at) (c .if1 .left)

@@ -12,17 +12,23 @@ use Rattle.read_items.proofs.items.read_pool_index.Tie as tie
 
 returns : tie.Need-returns
 returns c =
-    let pool = c .before .before .before .before .before .before .before .before .before .before .args .pool .now in
-    let fits = c .before .before .before .before .before .before .before .before .before .before .pre in
-    let index = was-read (c .before .before .before .before .before .v .given .1) (c .before .before .before .before .before .before .before .read-uvarint .ensures) in
-    let i = (c .before .before .before .before .before .v .given .0 .0) % 2 ^ 32 in
-    let e : c .before .before .before .cut-u32 .result ≡ i = c .before .before .before .cut-u32 .ensures in
+    let cut-u32 = c .before .before .before .cut-u32 in
+    let at-v = c .before .before .before .before .before in
+    let v = at-v .v in
+    let read-uvarint = at-v .before .before .read-uvarint in
+    let start = at-v .before .before .before .before .before in
+    let fits = start .pre in
+    let pool = start .args .pool .now in
+    let index = was-read (v .given .1) (read-uvarint .ensures) in
+    let i = (v .given .0 .0) % 2 ^ 32 in
+    let e : cut-u32 .result ≡ i = cut-u32 .ensures in
     rw e (record { is = λ names cs. reads-index pool names cs index (omega arith); inside = fits i (omega arith) })
 
 returns-2 : tie.Need-returns-2
 returns-2 c =
+    let read-uvarint = c .before .before .before .before .before .read-uvarint in
     let pool = c .before .before .before .before .before .before .before .before .args .pool .now in
-    let index = was-read (c .before .before .before .v .given .1) (c .before .before .before .before .before .read-uvarint .ensures) in
+    let index = was-read (c .before .before .before .v .given .1) (read-uvarint .ensures) in
     record { is = λ names cs. reads-index-above pool names cs index (rw (c .before .cut-u32 .ensures) at (c .if1 .left)); inside = tt }
 
 returns-3 : tie.Need-returns-3

@@ -7,13 +7,15 @@ use Rattle.read_items.proofs.items.read_uvarint.Tie as tie
 
 returns : tie.Need-returns
 returns c =
+    let args = c .before .before .before .before .before .args in
     rw (sym (c .before .before .before .read-uvarint .ensures) ∙ c .before .n .given .1) at
-    (reads-varint (c .before .before .before .before .before .args .bytes .now) (c .before .before .before .before .before .args .at))
+    (reads-varint (args .bytes .now) (args .at))
 
 returns-2 : tie.Need-returns-2
 returns-2 c =
+    let args = c .before .before .before .before .before .args in
     rw (sym (c .before .before .before .read-uvarint .ensures) ∙ c .before .number .given .1) at
-    (reads-varint (c .before .before .before .before .before .args .bytes .now) (c .before .before .before .before .before .args .at))
+    (reads-varint (args .bytes .now) (args .at))
 
 pub read-uvarint-spec : {M : Type 1} → statement M
 read-uvarint-spec =

@@ -10,11 +10,15 @@ use Rattle.read_items.proofs.numbers.read_bool.Tie as tie
 
 returns : tie.Need-returns
 unfolding if_then_else_
-returns c = rw (eq-eqb _ _ (c .if1 .taken)) at (reads-bool (was-read (c .before .before .b .given .1) (c .before .before .before .before .read-byte .ensures)))
+returns c =
+    let read-byte = c .before .before .before .before .read-byte in
+    rw (eq-eqb _ _ (c .if1 .taken)) at (reads-bool (was-read (c .before .before .b .given .1) (read-byte .ensures)))
 
 returns-2 : tie.Need-returns-2
 unfolding if_then_else_
-returns-2 c = rw (ne-eqb _ _ (c .if1 .left)) at (reads-bool (was-read (c .before .before .b .given .1) (c .before .before .before .before .read-byte .ensures)))
+returns-2 c =
+    let read-byte = c .before .before .before .before .read-byte in
+    rw (ne-eqb _ _ (c .if1 .left)) at (reads-bool (was-read (c .before .before .b .given .1) (read-byte .ensures)))
 
 returns-3 : tie.Need-returns-3
 unfolding readNumber

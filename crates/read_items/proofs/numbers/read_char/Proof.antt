@@ -10,13 +10,18 @@ use Rattle.read_items.proofs.numbers.read_char.Tie as tie
 returns : tie.Need-returns
 unfolding readNumber
 returns c =
-    let v = was-read (c .before .before .before .before .v .given .1) (c .before .before .before .before .before .before .read-uvarint .ensures) in
-    rw (c .before .before .cut-u32 .ensures) (reads-tested v _ _ _ (sym (ap isScalar (c .before .before .cut-u32 .ensures)) ∙ sym (c .before .is-scalar .ensures) ∙ c .if1 .taken))
+    let cut-u32 = c .before .before .cut-u32 in
+    let at-v = c .before .before .before .before in
+    let read-uvarint = at-v .before .before .read-uvarint in
+    let v = was-read (at-v .v .given .1) (read-uvarint .ensures) in
+    rw (cut-u32 .ensures) (reads-tested v _ _ _ (sym (ap isScalar (cut-u32 .ensures)) ∙ sym (c .before .is-scalar .ensures) ∙ c .if1 .taken))
 
 returns-2 : tie.Need-returns-2
 unfolding readNumber
 returns-2 c =
-    let v = was-read (c .before .before .before .before .v .given .1) (c .before .before .before .before .before .before .read-uvarint .ensures) in
+    let at-v = c .before .before .before .before in
+    let read-uvarint = at-v .before .before .read-uvarint in
+    let v = was-read (at-v .v .given .1) (read-uvarint .ensures) in
     reads-tested-not v _ _ _ (sym (ap isScalar (c .before .before .cut-u32 .ensures)) ∙ sym (c .before .is-scalar .ensures) ∙ c .if1 .left)
 
 returns-3 : tie.Need-returns-3

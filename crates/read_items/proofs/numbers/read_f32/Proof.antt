@@ -12,11 +12,15 @@ half-requires c κs = let b = was-body _ _ 4 (c .before .before .before .read-bo
 
 returns : tie.Need-returns
 unfolding readNumber
-returns c = let b = was-body _ _ 4 (c .before .before .before .before .read-body .ensures) (c .before .before .offset .given .1) in rw (c .half .ensures .0, b .0, b .1) (reads-float 4 (b .2))
+returns c =
+    let read-body = c .before .before .before .before .read-body in
+    let b = was-body _ _ 4 (read-body .ensures) (c .before .before .offset .given .1) in rw (c .half .ensures .0, b .0, b .1) (reads-float 4 (b .2))
 
 returns-2 : tie.Need-returns-2
 unfolding readNumber
-returns-2 c = let b = was-short _ _ 4 (c .before .before .before .read-body .ensures) (c .before .q .given .1) in rw (b .0) (reads-float-end 4 (b .1) (c .before .before .before .before .before .pre))
+returns-2 c =
+    let pre = c .before .before .before .before .before .pre in
+    let b = was-short _ _ 4 (c .before .before .before .read-body .ensures) (c .before .q .given .1) in rw (b .0) (reads-float-end 4 (b .1) pre)
 
 pub read-f32-spec : {M : Type 1} → statement M
 read-f32-spec =

@@ -10,13 +10,15 @@ use Rattle.read_items.proofs.numbers.read_handle_kind.Tie as tie
 returns : tie.Need-returns
 unfolding readNumber
 returns c =
-    let v = was-read (c .before .before .before .v .given .1) (c .before .before .before .before .before .read-uvarint .ensures) in
+    let read-uvarint = c .before .before .before .before .before .read-uvarint in
+    let v = was-read (c .before .before .before .v .given .1) (read-uvarint .ensures) in
     rw (c .before .cut-u8 .ensures) (reads-tested v _ _ _ (le-leb _ _ (rw (c .before .cut-u8 .ensures) at (c .if1 .taken))))
 
 returns-2 : tie.Need-returns-2
 unfolding readNumber
 returns-2 c =
-    let v = was-read (c .before .before .before .v .given .1) (c .before .before .before .before .before .read-uvarint .ensures) in
+    let read-uvarint = c .before .before .before .before .before .read-uvarint in
+    let v = was-read (c .before .before .before .v .given .1) (read-uvarint .ensures) in
     reads-tested-not v _ _ _ (lt-leb _ _ (rw (c .before .cut-u8 .ensures) at (c .if1 .left)))
 
 returns-3 : tie.Need-returns-3

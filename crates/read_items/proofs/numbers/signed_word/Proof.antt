@@ -13,8 +13,9 @@ use Rattle.read_items.proofs.numbers.signed_word.Tie as tie
 
 returns : tie.Need-returns
 returns c =
-    let z = unzigzagOf (c .before .before .args .z) in
-    let fits : SFits w64 z = record { sfits = unzigzag-range (c .before .before .args .z) (omega (arith, c .before .before .fits .z)) } in
+    let start = c .before .before in
+    let z = unzigzagOf (start .args .z) in
+    let fits : SFits w64 z = record { sfits = unzigzag-range (start .args .z) (omega (arith, start .fits .z)) } in
     c .to-word .ensures ∙ rw (c .before .unzigzag .ensures) (ap wordOf (toZ-ofZ {w = w64} {z = z} fits))
 
 pub signed-word-spec : {M : Type 1} → statement M

@@ -7,14 +7,25 @@ use Rattle.read_items.proofs.positions.read_position.Statement.{stateme
 use Rattle.read_items.proofs.positions.read_position.Tie as tie
 
 returns : tie.Need-returns
-returns c = rw (signed (c .known-told2 .given .0 .1)) (reads-position (toZ-ofZ (c .before .before .before .before .before .before .before .before .before .before .fits .old))
-    (signed (c .before .before .before .before .unzigzag .ok) ∙ c .before .before .before .before .unzigzag .ensures) (c .before .before .before .add-delta .ensures)
-    (was-read (c .before .before .before .before .before .before .delta .given .1) (c .before .before .before .before .before .before .before .before .read-uvarint .ensures)) (c .before .new .given .1))
+returns c =
+    let at-unzigzag = c .before .before .before .before in
+    let unzigzag = at-unzigzag .unzigzag in
+    let delta = at-unzigzag .before .before .delta in
+    let at-read-uvarint = at-unzigzag .before .before .before .before in
+    let fits = at-read-uvarint .before .before .fits in
+    rw (signed (c .known-told2 .given .0 .1)) (reads-position (toZ-ofZ (fits .old))
+    (signed (unzigzag .ok) ∙ unzigzag .ensures) (c .before .before .before .add-delta .ensures)
+    (was-read (delta .given .1) (at-read-uvarint .read-uvarint .ensures)) (c .before .new .given .1))
 
 returns-2 : tie.Need-returns-2
-returns-2 c = reads-no-position (toZ-ofZ (c .before .before .before .before .before .before .before .before .before .fits .old))
-    (signed (c .before .before .before .unzigzag .ok) ∙ c .before .before .before .unzigzag .ensures) (c .before .before .add-delta .ensures)
-    (was-read (c .before .before .before .before .before .delta .given .1) (c .before .before .before .before .before .before .before .read-uvarint .ensures)) (c .enum-told .given .1)
+returns-2 c =
+    let unzigzag = c .before .before .before .unzigzag in
+    let at-delta = c .before .before .before .before .before in
+    let read-uvarint = at-delta .before .before .read-uvarint in
+    let fits = at-delta .before .before .before .before .fits in
+    reads-no-position (toZ-ofZ (fits .old))
+    (signed (unzigzag .ok) ∙ unzigzag .ensures) (c .before .before .add-delta .ensures)
+    (was-read (at-delta .delta .given .1) (read-uvarint .ensures)) (c .enum-told .given .1)
 
 returns-3 : tie.Need-returns-3
 returns-3 c = reads-position-stop _ (was-refused (c .before .n .given .1) (c .before .before .before .read-uvarint .ensures))

@@ -14,15 +14,26 @@ use Rattle.read_values.proofs.keys.test_key.Tie as tie
 
 returns : tie.Need-returns
 unfolding keyRefusal
-returns c = let x = c .before .before .before .before .before .args in let e : isKeyTag (getD (x .rows .now) (rowWidth * x .own) 0) ≡ false = sym (c .before .is-key-tag .ensures) ∙ not-true _ (c .if1 .taken) in sym (rw (at-zero (x .rows .now) (rowWidth * x .own), e))
+returns c =
+    let x = c .before .before .before .before .before .args in
+    let e : isKeyTag (getD (x .rows .now) (rowWidth * x .own) 0) ≡ false = sym (c .before .is-key-tag .ensures) ∙ not-true _ (c .if1 .taken) in
+    sym (rw (at-zero (x .rows .now) (rowWidth * x .own), e))
 
 returns-2 : tie.Need-returns-2
 unfolding keyRefusal
-returns-2 c = let x = c .before .before .before .before .before .before .before .args in let e : isKeyTag (getD (x .rows .now) (rowWidth * x .own) 0) ≡ true = sym (c .before .before .before .is-key-tag .ensures) ∙ not-false _ (c .before .before .if1 .left) in sym (rw (at-zero (x .rows .now) (rowWidth * x .own), e, sym (c .before .seen-in .ensures) ∙ c .if2 .taken))
+returns-2 c =
+    let x = c .before .before .before .before .before .before .before .args in
+    let e : isKeyTag (getD (x .rows .now) (rowWidth * x .own) 0) ≡ true = sym (c .before .before .before .is-key-tag .ensures)
+    ∙ not-false _ (c .before .before .if1 .left) in
+    sym (rw (at-zero (x .rows .now) (rowWidth * x .own), e, sym (c .before .seen-in .ensures) ∙ c .if2 .taken))
 
 returns-3 : tie.Need-returns-3
 unfolding keyRefusal
-returns-3 c = let x = c .before .before .before .before .before .before .before .args in let e : isKeyTag (getD (x .rows .now) (rowWidth * x .own) 0) ≡ true = sym (c .before .before .before .is-key-tag .ensures) ∙ not-false _ (c .before .before .if1 .left) in sym (rw (at-zero (x .rows .now) (rowWidth * x .own), e, sym (c .before .seen-in .ensures) ∙ c .if2 .left))
+returns-3 c =
+    let x = c .before .before .before .before .before .before .before .args in
+    let e : isKeyTag (getD (x .rows .now) (rowWidth * x .own) 0) ≡ true = sym (c .before .before .before .is-key-tag .ensures)
+    ∙ not-false _ (c .before .before .if1 .left) in
+    sym (rw (at-zero (x .rows .now) (rowWidth * x .own), e, sym (c .before .seen-in .ensures) ∙ c .if2 .left))
 
 pub test-key-spec : {M : Type 1} → statement M
 test-key-spec =

@@ -23,4 +23,7 @@ mod Value
 mod Values
 
 pub +read-chunk+read-closure+read-field+read-fields+read-keys+read-pairs+read-under+read-value+read-values-spec : {M : Type 1} → statement M
-+read-chunk+read-closure+read-field+read-fields+read-keys+read-pairs+read-under+read-value+read-values-spec {M} = close μ-read-chunk μ-read-closure μ-read-field μ-read-fields μ-read-keys μ-read-pairs μ-read-under μ-read-value μ-read-values (read-chunk-meets {M = M}) (read-closure-meets {M = M}) (read-field-meets {M = M}) (read-fields-meets {M = M}) (read-keys-meets {M = M}) (read-pairs-meets {M = M}) (read-under-meets {M = M}) (read-value-meets {M = M}) (read-values-meets {M = M})
++read-chunk+read-closure+read-field+read-fields+read-keys+read-pairs+read-under+read-value+read-values-spec {M} =
+    close μ-read-chunk μ-read-closure μ-read-field μ-read-fields μ-read-keys μ-read-pairs μ-read-under μ-read-value μ-read-values (read-chunk-meets {M = M})
+    (read-closure-meets {M = M}) (read-field-meets {M = M}) (read-fields-meets {M = M}) (read-keys-meets {M = M}) (read-pairs-meets {M = M})
+    (read-under-meets {M = M}) (read-value-meets {M = M}) (read-values-meets {M = M})

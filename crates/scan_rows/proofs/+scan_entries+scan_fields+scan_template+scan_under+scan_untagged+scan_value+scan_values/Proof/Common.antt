@@ -130,7 +130,24 @@ abbrev pub scan-untagged-known : ℕ → scan-untagged-lts.Claims
 scan-untagged-known t = (head-fits-reads.Asked, head-fits-reads.Learnt, word-at-reads.Asked, word-at-reads.Learnt, scan-values-below t, scan-values.Post)
 
 abbrev pub scan-under-known : ℕ → scan-under-lts.Claims
-scan-under-known t = (word-at-reads.Asked, word-at-reads.Learnt, under-rules-reads.Asked, under-rules-reads.Learnt, scan-values-below t, scan-values.Post, count-word-reads.Asked, count-word-reads.Learnt, scan-entries-below t, scan-entries.Post, scan-untagged-below t, scan-untagged.Post, scan-fields-below t, scan-fields.Post, scan-template-below t, scan-template.Post)
+scan-under-known t = (
+  word-at-reads.Asked,
+  word-at-reads.Learnt,
+  under-rules-reads.Asked,
+  under-rules-reads.Learnt,
+  scan-values-below t,
+  scan-values.Post,
+  count-word-reads.Asked,
+  count-word-reads.Learnt,
+  scan-entries-below t,
+  scan-entries.Post,
+  scan-untagged-below t,
+  scan-untagged.Post,
+  scan-fields-below t,
+  scan-fields.Post,
+  scan-template-below t,
+  scan-template.Post,
+)
 
 abbrev pub scan-template-known : ℕ → scan-template-lts.Claims
 scan-template-known t = (is-tagged-reads.Asked, is-tagged-reads.Learnt, scan-value-below t, scan-value.Post, scan-values-below t, scan-values.Post)

@@ -15,16 +15,33 @@ scan-fields-Inv-loop depth store rows n i at₀ k₀ at k = Many rows (scanField
 abbrev scan-fields-μ-loop : scan-fields-lts.MeasureT-loop
 scan-fields-μ-loop depth store rows n i at₀ k₀ at k = n - k
 
-scan-fields-loop-holds : (t : ℕ) → scan-fields-lts.Need-loop-holds (scan-fields-known t) (scan-fields-at t) scan-fields.Post scan-fields-Inv-loop scan-fields-μ-loop
+scan-fields-loop-holds :
+    (t : ℕ) → scan-fields-lts.Need-loop-holds (scan-fields-known t) (scan-fields-at t) scan-fields.Post scan-fields-Inv-loop scan-fields-μ-loop
 scan-fields-loop-holds t c = many-start
 
 scan-fields-returns : (t : ℕ) → scan-fields-lts.Need-returns (scan-fields-known t) (scan-fields-at t) scan-fields.Post scan-fields-Inv-loop scan-fields-μ-loop
-scan-fields-returns t c = many-stop (c .before .before .before .before .before .loop .inv) (c .before .before .before .before .loop-test .taken) (c .before .b .given .1) (field-row (c .before .before .before .before .before .before .before .before .args .store .now) (c .before .before .before .before .before .before .before .before .args .rows .now) (c .before .before .before .before .before .before .before .before .pre .1) (scanValue (c .before .before .before .before .before .before .before .before .args .store .now) (c .before .before .before .before .before .before .before .before .args .depth)) (c .before .before .before .before .before .loop .at) (c .before .before .before .scan-untagged .ensures))
+scan-fields-returns t c =
+    let at-loop-test = c .before .before .before .before in
+    let loop = at-loop-test .before .loop in
+    let start = at-loop-test .before .before .before .before in
+    let args = start .args in
+    many-stop (loop .inv) (at-loop-test .loop-test .taken) (c .before .b .given .1)
+    (field-row (args .store .now) (args .rows .now) (start .pre .1) (scanValue (args .store .now) (args .depth)) (loop .at)
+    (c .before .before .before .scan-untagged .ensures))
 
-scan-fields-loop-again : (t : ℕ) → scan-fields-lts.Need-loop-again (scan-fields-known t) (scan-fields-at t) scan-fields.Post scan-fields-Inv-loop scan-fields-μ-loop
-scan-fields-loop-again t c = many-more (c .before .before .before .before .before .loop .inv) (c .before .before .before .before .loop-test .taken) (c .before .j .given .1) (field-row (c .before .before .before .before .before .before .before .before .args .store .now) (c .before .before .before .before .before .before .before .before .args .rows .now) (c .before .before .before .before .before .before .before .before .pre .1) (scanValue (c .before .before .before .before .before .before .before .before .args .store .now) (c .before .before .before .before .before .before .before .before .args .depth)) (c .before .before .before .before .before .loop .at) (c .before .before .before .scan-untagged .ensures))
+scan-fields-loop-again :
+    (t : ℕ) → scan-fields-lts.Need-loop-again (scan-fields-known t) (scan-fields-at t) scan-fields.Post scan-fields-Inv-loop scan-fields-μ-loop
+scan-fields-loop-again t c =
+    let at-loop-test = c .before .before .before .before in
+    let loop = at-loop-test .before .loop in
+    let start = at-loop-test .before .before .before .before in
+    let args = start .args in
+    many-more (loop .inv) (at-loop-test .loop-test .taken) (c .before .j .given .1)
+    (field-row (args .store .now) (args .rows .now) (start .pre .1) (scanValue (args .store .now) (args .depth)) (loop .at)
+    (c .before .before .before .scan-untagged .ensures))
 
-scan-fields-returns-2 : (t : ℕ) → scan-fields-lts.Need-returns-2 (scan-fields-known t) (scan-fields-at t) scan-fields.Post scan-fields-Inv-loop scan-fields-μ-loop
+scan-fields-returns-2 :
+    (t : ℕ) → scan-fields-lts.Need-returns-2 (scan-fields-known t) (scan-fields-at t) scan-fields.Post scan-fields-Inv-loop scan-fields-μ-loop
 scan-fields-returns-2 t c = many-done (c .before .loop .inv) (c .loop-test .left)
 
 pub scan-fields-meets : {M : Type 1} (t : ℕ) → scan-fields-lts.Closed (scan-fields-known t) (scan-fields-at t) scan-fields.Post M

@@ -11,22 +11,56 @@ use Rattle.scan_rows.proofs.scan_untagged.Reads as scan-untagged
 use Rattle.scan_rows.proofs.+scan_entries+scan_fields+scan_template+scan_under+scan_untagged+scan_value+scan_values.Lts-scan_untagged as scan-untagged-lts
 
 scan-untagged-returns : (t : ℕ) → scan-untagged-lts.Need-returns (scan-untagged-known t) (scan-untagged-at t) scan-untagged.Post
-scan-untagged-returns t c = untagged-unfit (c .before .before .before .before .args .store .now) (c .before .before .before .before .args .rows .now) (c .before .before .before .before .pre .1 .0) (scanValue (c .before .before .before .before .args .store .now) (c .before .before .before .before .args .depth)) (c .before .before .before .before .args .i) (c .before .before .before .before .pre .1 .1 .0) (c .before .before .before .before .pre .1 .1 .1) (sym (c .before .head-fits .ensures) ∙ not-true _ (c .if1 .taken))
+scan-untagged-returns t c =
+    let start = c .before .before .before .before in
+    let args = start .args in
+    untagged-unfit (args .store .now) (args .rows .now) (start .pre .1 .0) (scanValue (args .store .now) (args .depth)) (args .i) (start .pre .1 .1 .0)
+    (start .pre .1 .1 .1) (sym (c .before .head-fits .ensures) ∙ not-true _ (c .if1 .taken))
 
 scan-untagged-word-at-requires : (t : ℕ) → scan-untagged-lts.Need-word-at-requires (scan-untagged-known t) (scan-untagged-at t) scan-untagged.Post
-scan-untagged-word-at-requires t c κs = (head-tag (c .before .before .before .before .before .args .store .now) (c .before .before .before .before .before .args .rows .now) (c .before .before .before .before .before .pre .1 .0) (scanValue (c .before .before .before .before .before .args .store .now) (c .before .before .before .before .before .args .depth)) (c .before .before .before .before .before .args .i) (c .before .before .before .before .before .args .tag) (sym (c .before .before .head-fits .ensures) ∙ not-false _ (c .before .if1 .left)) .0, omega arith)
+scan-untagged-word-at-requires t c κs =
+    let start = c .before .before .before .before .before in
+    let args = start .args in (
+      head-tag (args .store .now) (args .rows .now) (start .pre .1 .0) (scanValue (args .store .now) (args .depth)) (args .i) (args .tag)
+          (sym (c .before .before .head-fits .ensures) ∙ not-false _ (c .before .if1 .left)) .0,
+      omega arith,
+    )
 
 scan-untagged-add-scan-values : (t : ℕ) → scan-untagged-lts.Need-add-scan-values (scan-untagged-known t) (scan-untagged-at t) scan-untagged.Post
-scan-untagged-add-scan-values t c = omega (arith, head-tag (c .before .before .before .before .before .before .args .store .now) (c .before .before .before .before .before .before .args .rows .now) (c .before .before .before .before .before .before .pre .1 .0) (scanValue (c .before .before .before .before .before .before .args .store .now) (c .before .before .before .before .before .before .args .depth)) (c .before .before .before .before .before .before .args .i) (c .before .before .before .before .before .before .args .tag) (sym (c .before .before .before .head-fits .ensures) ∙ not-false _ (c .before .before .if1 .left)) .0)
+scan-untagged-add-scan-values t c =
+    let start = c .before .before .before .before .before .before in
+    let args = start .args in
+    omega (
+      arith,
+      head-tag (args .store .now) (args .rows .now) (start .pre .1 .0) (scanValue (args .store .now) (args .depth)) (args .i) (args .tag)
+          (sym (c .before .before .before .head-fits .ensures) ∙ not-false _ (c .before .before .if1 .left)) .0,
+    )
 
 scan-untagged-returns-2 : (t : ℕ) → scan-untagged-lts.Need-returns-2 (scan-untagged-known t) (scan-untagged-at t) scan-untagged.Post
-scan-untagged-returns-2 t c = chunk-found (c .before .before .before .before .before .before .before .args .store .now) (c .before .before .before .before .before .before .before .args .rows .now) (c .before .before .before .before .before .before .before .pre .1 .0) (scanValue (c .before .before .before .before .before .before .before .args .store .now) (c .before .before .before .before .before .before .before .args .depth)) (c .before .before .before .before .before .before .before .args .i) (c .before .before .if2 .taken) (sym (c .before .before .before .before .head-fits .ensures) ∙ not-false _ (c .before .before .before .if1 .left)) (c .before .word-at .ensures .0) (c .scan-values .ensures)
+scan-untagged-returns-2 t c =
+    let at-head-fits = c .before .before .before .before in
+    let start = at-head-fits .before .before .before in
+    let args = start .args in
+    chunk-found (args .store .now) (args .rows .now) (start .pre .1 .0) (scanValue (args .store .now) (args .depth)) (args .i) (c .before .before .if2 .taken)
+    (sym (at-head-fits .head-fits .ensures) ∙ not-false _ (c .before .before .before .if1 .left)) (c .before .word-at .ensures .0) (c .scan-values .ensures)
 
 scan-untagged-add-scan-values-2 : (t : ℕ) → scan-untagged-lts.Need-add-scan-values-2 (scan-untagged-known t) (scan-untagged-at t) scan-untagged.Post
-scan-untagged-add-scan-values-2 t c = omega (arith, head-tag (c .before .before .before .before .before .args .store .now) (c .before .before .before .before .before .args .rows .now) (c .before .before .before .before .before .pre .1 .0) (scanValue (c .before .before .before .before .before .args .store .now) (c .before .before .before .before .before .args .depth)) (c .before .before .before .before .before .args .i) (c .before .before .before .before .before .args .tag) (sym (c .before .before .head-fits .ensures) ∙ not-false _ (c .before .if1 .left)) .0)
+scan-untagged-add-scan-values-2 t c =
+    let start = c .before .before .before .before .before in
+    let args = start .args in
+    omega (
+      arith,
+      head-tag (args .store .now) (args .rows .now) (start .pre .1 .0) (scanValue (args .store .now) (args .depth)) (args .i) (args .tag)
+          (sym (c .before .before .head-fits .ensures) ∙ not-false _ (c .before .if1 .left)) .0,
+    )
 
 scan-untagged-returns-3 : (t : ℕ) → scan-untagged-lts.Need-returns-3 (scan-untagged-known t) (scan-untagged-at t) scan-untagged.Post
-scan-untagged-returns-3 t c = field-found (c .before .before .before .before .before .before .args .store .now) (c .before .before .before .before .before .before .args .rows .now) (c .before .before .before .before .before .before .pre .1 .0) (scanValue (c .before .before .before .before .before .before .args .store .now) (c .before .before .before .before .before .before .args .depth)) (c .before .before .before .before .before .before .args .i) (c .before .before .before .before .before .before .pre .1 .1 .0) (c .before .before .before .before .before .before .pre .1 .1 .1) (c .before .if2 .left) (sym (c .before .before .before .head-fits .ensures) ∙ not-false _ (c .before .before .if1 .left)) (c .scan-values2 .ensures)
+scan-untagged-returns-3 t c =
+    let start = c .before .before .before .before .before .before in
+    let args = start .args in
+    field-found (args .store .now) (args .rows .now) (start .pre .1 .0) (scanValue (args .store .now) (args .depth)) (args .i) (start .pre .1 .1 .0)
+    (start .pre .1 .1 .1) (c .before .if2 .left) (sym (c .before .before .before .head-fits .ensures) ∙ not-false _ (c .before .before .if1 .left))
+    (c .scan-values2 .ensures)
 
 pub scan-untagged-meets : {M : Type 1} (t : ℕ) → scan-untagged-lts.Closed (scan-untagged-known t) (scan-untagged-at t) scan-untagged.Post M
 scan-untagged-meets t = scan-untagged-lts.spec (scan-untagged-known t) (scan-untagged-at t)

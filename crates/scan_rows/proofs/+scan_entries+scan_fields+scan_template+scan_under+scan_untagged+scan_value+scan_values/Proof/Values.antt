@@ -13,7 +13,8 @@ scan-values-Inv-loop depth store rows n i at₀ k₀ at k = Many rows (scanValue
 abbrev scan-values-μ-loop : scan-values-lts.MeasureT-loop
 scan-values-μ-loop depth store rows n i at₀ k₀ at k = n - k
 
-scan-values-loop-holds : (t : ℕ) → scan-values-lts.Need-loop-holds (scan-values-known t) (scan-values-at t) scan-values.Post scan-values-Inv-loop scan-values-μ-loop
+scan-values-loop-holds :
+    (t : ℕ) → scan-values-lts.Need-loop-holds (scan-values-known t) (scan-values-at t) scan-values.Post scan-values-Inv-loop scan-values-μ-loop
 scan-values-loop-holds t c = many-start
 
 scan-values-returns :
@@ -22,12 +23,20 @@ scan-values-returns :
     scan-values.Post
     scan-values-Inv-loop
     scan-values-μ-loop
-scan-values-returns t c = many-stop (c .before .before .before .before .before .loop .inv) (c .before .before .before .before .loop-test .taken) (c .before .b .given .1) (c .before .before .before .scan-value .ensures)
+scan-values-returns t c =
+    let at-loop-test = c .before .before .before .before in
+    let loop = at-loop-test .before .loop in
+    many-stop (loop .inv) (at-loop-test .loop-test .taken) (c .before .b .given .1) (c .before .before .before .scan-value .ensures)
 
-scan-values-loop-again : (t : ℕ) → scan-values-lts.Need-loop-again (scan-values-known t) (scan-values-at t) scan-values.Post scan-values-Inv-loop scan-values-μ-loop
-scan-values-loop-again t c = many-more (c .before .before .before .before .before .loop .inv) (c .before .before .before .before .loop-test .taken) (c .before .j .given .1) (c .before .before .before .scan-value .ensures)
+scan-values-loop-again :
+    (t : ℕ) → scan-values-lts.Need-loop-again (scan-values-known t) (scan-values-at t) scan-values.Post scan-values-Inv-loop scan-values-μ-loop
+scan-values-loop-again t c =
+    let at-loop-test = c .before .before .before .before in
+    let loop = at-loop-test .before .loop in
+    many-more (loop .inv) (at-loop-test .loop-test .taken) (c .before .j .given .1) (c .before .before .before .scan-value .ensures)
 
-scan-values-returns-2 : (t : ℕ) → scan-values-lts.Need-returns-2 (scan-values-known t) (scan-values-at t) scan-values.Post scan-values-Inv-loop scan-values-μ-loop
+scan-values-returns-2 :
+    (t : ℕ) → scan-values-lts.Need-returns-2 (scan-values-known t) (scan-values-at t) scan-values.Post scan-values-Inv-loop scan-values-μ-loop
 scan-values-returns-2 t c = many-done (c .before .loop .inv) (c .loop-test .left)
 
 pub scan-values-meets : {M : Type 1} (t : ℕ) → scan-values-lts.Closed (scan-values-known t) (scan-values-at t) scan-values.Post M

@@ -38,7 +38,31 @@ write-rows-below t =
     and 6 write-rows-kinds.ps (falls 6 write-rows-kinds.ps _<_ μ-write-rows t) write-rows.Pre
 
 abbrev pub write-rows-known : ℕ → write-rows-lts.Claims
-write-rows-known t = (word-at-reads.Asked, word-at-reads.Learnt, under-form-reads.Asked, under-form-reads.Learnt, write-leaf-reads.Asked, write-leaf-reads.Learnt, write-row-below t, write-row.Post)
+write-rows-known t = (
+  word-at-reads.Asked,
+  word-at-reads.Learnt,
+  under-form-reads.Asked,
+  under-form-reads.Learnt,
+  write-leaf-reads.Asked,
+  write-leaf-reads.Learnt,
+  write-row-below t,
+  write-row.Post,
+)
 
 abbrev pub write-row-known : ℕ → write-row-lts.Claims
-write-row-known t = (span-after-reads.Asked, span-after-reads.Learnt, write-head-reads.Asked, write-head-reads.Learnt, rows-under-reads.Asked, rows-under-reads.Learnt, word-at-reads.Asked, word-at-reads.Learnt, under-form-reads.Asked, under-form-reads.Learnt, write-rows-below t, write-rows.Post, write-items-reads.Asked, write-items-reads.Learnt)
+write-row-known t = (
+  span-after-reads.Asked,
+  span-after-reads.Learnt,
+  write-head-reads.Asked,
+  write-head-reads.Learnt,
+  rows-under-reads.Asked,
+  rows-under-reads.Learnt,
+  word-at-reads.Asked,
+  word-at-reads.Learnt,
+  under-form-reads.Asked,
+  under-form-reads.Learnt,
+  write-rows-below t,
+  write-rows.Post,
+  write-items-reads.Asked,
+  write-items-reads.Learnt,
+)

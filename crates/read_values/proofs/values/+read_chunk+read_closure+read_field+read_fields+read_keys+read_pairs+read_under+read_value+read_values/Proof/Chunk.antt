@@ -16,31 +16,110 @@ use Rattle.read_values.proofs.values.+read_chunk+read_closure+read_fiel
 
 read-chunk-returns : (t : ℕ) → read-chunk-lts.Need-returns (read-chunk-known t) (read-chunk-at t) read-chunk.Post
 unfolding contextOf
-read-chunk-returns t c = record { out = row-full (context (c .before .before .before .before .before .before .before .before .args .limits) (c .before .before .before .before .before .before .before .before .args .bytes .now) (c .before .before .before .before .before .before .before .before .args .names .now) (c .before .before .before .before .before .before .before .before .args .pool .now)) (readValue (context (c .before .before .before .before .before .before .before .before .args .limits) (c .before .before .before .before .before .before .before .before .args .bytes .now) (c .before .before .before .before .before .before .before .before .args .names .now) (c .before .before .before .before .before .before .before .before .args .pool .now)) (c .before .before .before .before .before .before .before .before .args .left)) (c .before .before .before .before .before .before .before .before .args .bytes .now) (c .before .before .before .before .before .before .before .before .args .state .at) (c .before .before .before .before .before .before .before .before .args .state .rows) (c .before .before .before .before .before .before .before .before .args .state .spans) 32 (ItemKind.code ∷ []) values (c .if1 .taken) }
+read-chunk-returns t c =
+    let args = c .before .before .before .before .before .before .before .before .args in
+    record {
+      out = row-full (context (args .limits) (args .bytes .now) (args .names .now) (args .pool .now))
+          (readValue (context (args .limits) (args .bytes .now) (args .names .now) (args .pool .now)) (args .left)) (args .bytes .now) (args .state .at)
+          (args .state .rows) (args .state .spans) 32 (ItemKind.code ∷ []) values (c .if1 .taken);
+    }
 
 read-chunk-read-code-requires : (t : ℕ) → read-chunk-lts.Need-read-code-requires (read-chunk-known t) (read-chunk-at t) read-chunk.Post
-read-chunk-read-code-requires t c κs = (c .before .before .before .before .before .before .before .before .before .pre .1 .0 .covered, c .before .before .before .before .before .before .before .before .before .pre .1 .0 .cover)
+read-chunk-read-code-requires t c κs =
+    let pre = c .before .before .before .before .before .before .before .before .before .pre in
+    (pre .1 .0 .covered, pre .1 .0 .cover)
 
 read-chunk-write-row-requires : (t : ℕ) → read-chunk-lts.Need-write-row-requires (read-chunk-known t) (read-chunk-at t) read-chunk.Post
-read-chunk-write-row-requires t c κs = omega (arith, c .before .before .before .before .before .before .before .before .before .before .before .before .before .before .before .before .before .before .before .before .pre .1 .0, c .before .before .before .before .before .before .before .before .before .before .before .before .if1 .left)
+read-chunk-write-row-requires t c κs =
+    let at-if1 = c .before .before .before .before .before .before .before .before .before .before .before .before in
+    let pre = at-if1 .before .before .before .before .before .before .before .before .pre in
+    omega (arith, pre .1 .0, at-if1 .if1 .left)
 
 read-chunk-add-t35 : (t : ℕ) → read-chunk-lts.Need-add-t35 (read-chunk-known t) (read-chunk-at t) read-chunk.Post
-read-chunk-add-t35 t c = omega (arith, c .before .before .before .before .before .before .before .before .before .before .before .before .before .before .before .before .before .before .before .before .before .before .before .before .before .before .before .pre .1 .0, (code-of (c .before .before .before .before .before .before .before .before .before .before .before .before .before .o .given .1) (c .before .before .before .before .before .before .before .before .before .before .before .before .before .before .before .before .before .read-code .ensures)) .fits)
+read-chunk-add-t35 t c =
+    let at-o = c .before .before .before .before .before .before .before .before .before .before .before .before .before in
+    let at-read-code = at-o .before .before .before .before in
+    let pre = at-read-code .before .before .before .before .before .before .before .before .before .before .pre in
+    omega (arith, pre .1 .0, (code-of (at-o .o .given .1) (at-read-code .read-code .ensures)) .fits)
 
 read-chunk-read-values-requires : (t : ℕ) → read-chunk-lts.Need-read-values-requires (read-chunk-known t) (read-chunk-at t) read-chunk.Post
-read-chunk-read-values-requires t c κs = (omega (arith, c .before .before .before .before .before .before .before .before .before .before .before .before .before .before .before .before .before .before .before .before .before .before .before .before .before .before .before .pre .0), (omega (arith, c .before .before .before .before .before .before .before .before .before .before .before .before .before .before .before .before .before .before .before .before .before .before .before .before .before .before .before .pre .1 .0, c .before .before .before .before .before .before .before .before .before .before .before .before .before .before .before .before .before .read-code .kept, c .before .before .before .before .before .before .write-row .kept, c .before .before .before .before .before .before .before .before .before .before .before .before .before .before .before .before .before .before .before .if1 .left, (was-read (c .before .before .before .before .before .before .before .before .before .count .given .1) (c .before .before .before .before .before .before .before .before .before .before .before .read-uvarint .ensures)) .inside, (code-of (c .before .before .before .before .before .before .before .before .before .before .before .before .before .o .given .1) (c .before .before .before .before .before .before .before .before .before .before .before .before .before .before .before .before .before .read-code .ensures)) .fits), c .before .before .before .before .before .before .before .before .before .before .before .before .before .before .before .before .before .before .before .before .before .before .before .before .before .before .before .pre .1 .1))
+read-chunk-read-values-requires t c κs =
+    let at-write-row = c .before .before .before .before .before .before in
+    let count = at-write-row .before .before .before .count in
+    let at-read-uvarint = at-write-row .before .before .before .before .before in
+    let o = at-read-uvarint .before .before .o in
+    let at-read-code = at-read-uvarint .before .before .before .before .before .before in
+    let read-code = at-read-code .read-code in
+    let if1 = at-read-code .before .before .if1 in
+    let pre = at-read-code .before .before .before .before .before .before .before .before .before .before .pre in (
+      omega (arith, pre .0),
+      (
+        omega (
+          arith,
+          pre .1 .0,
+          read-code .kept,
+          at-write-row .write-row .kept,
+          if1 .left,
+          (was-read (count .given .1) (at-read-uvarint .read-uvarint .ensures)) .inside,
+          (code-of (o .given .1) (read-code .ensures)) .fits,
+        ),
+        pre .1 .1,
+      ),
+    )
 
 read-chunk-returns-2 : (t : ℕ) → read-chunk-lts.Need-returns-2 (read-chunk-known t) (read-chunk-at t) read-chunk.Post
 unfolding contextOf
-read-chunk-returns-2 t c = rw (row-room (context (c .before .before .before .before .before .before .before .before .before .before .before .before .before .before .before .before .before .before .before .before .before .before .before .before .before .before .before .before .before .before .before .before .args .limits) (c .before .before .before .before .before .before .before .before .before .before .before .before .before .before .before .before .before .before .before .before .before .before .before .before .before .before .before .before .before .before .before .before .args .bytes .now) (c .before .before .before .before .before .before .before .before .before .before .before .before .before .before .before .before .before .before .before .before .before .before .before .before .before .before .before .before .before .before .before .before .args .names .now) (c .before .before .before .before .before .before .before .before .before .before .before .before .before .before .before .before .before .before .before .before .before .before .before .before .before .before .before .before .before .before .before .before .args .pool .now)) (readValue (context (c .before .before .before .before .before .before .before .before .before .before .before .before .before .before .before .before .before .before .before .before .before .before .before .before .before .before .before .before .before .before .before .before .args .limits) (c .before .before .before .before .before .before .before .before .before .before .before .before .before .before .before .before .before .before .before .before .before .before .before .before .before .before .before .before .before .before .before .before .args .bytes .now) (c .before .before .before .before .before .before .before .before .before .before .before .before .before .before .before .before .before .before .before .before .before .before .before .before .before .before .before .before .before .before .before .before .args .names .now) (c .before .before .before .before .before .before .before .before .before .before .before .before .before .before .before .before .before .before .before .before .before .before .before .before .before .before .before .before .before .before .before .before .args .pool .now)) (c .before .before .before .before .before .before .before .before .before .before .before .before .before .before .before .before .before .before .before .before .before .before .before .before .before .before .before .before .before .before .before .before .args .left)) (c .before .before .before .before .before .before .before .before .before .before .before .before .before .before .before .before .before .before .before .before .before .before .before .before .before .before .before .before .before .before .before .before .args .bytes .now) (c .before .before .before .before .before .before .before .before .before .before .before .before .before .before .before .before .before .before .before .before .before .before .before .before .before .before .before .before .before .before .before .before .args .state .at) (c .before .before .before .before .before .before .before .before .before .before .before .before .before .before .before .before .before .before .before .before .before .before .before .before .before .before .before .before .before .before .before .before .args .state .rows) (c .before .before .before .before .before .before .before .before .before .before .before .before .before .before .before .before .before .before .before .before .before .before .before .before .before .before .before .before .before .before .before .before .args .state .spans) 32 (ItemKind.code ∷ []) values (c .before .before .before .before .before .before .before .before .before .before .before .before .before .before .before .before .before .before .before .before .before .before .before .before .if1 .left)) (did-chunk (c .before .before .before .before .before .before .before .before .before .before .before .before .before .before .before .before .before .before .before .before .before .before .before .before .before .before .before .before .before .before .before .before .args .limits) (c .before .before .before .before .before .before .before .before .before .before .before .before .before .before .before .before .before .before .before .before .before .before .before .before .before .before .before .before .before .before .before .before .args .bytes .now) (c .before .before .before .before .before .before .before .before .before .before .before .before .before .before .before .before .before .before .before .before .before .before .before .before .before .before .before .before .before .before .before .before .args .names .now) (c .before .before .before .before .before .before .before .before .before .before .before .before .before .before .before .before .before .before .before .before .before .before .before .before .before .before .before .before .before .before .before .before .args .pool .now) (readValue (context (c .before .before .before .before .before .before .before .before .before .before .before .before .before .before .before .before .before .before .before .before .before .before .before .before .before .before .before .before .before .before .before .before .args .limits) (c .before .before .before .before .before .before .before .before .before .before .before .before .before .before .before .before .before .before .before .before .before .before .before .before .before .before .before .before .before .before .before .before .args .bytes .now) (c .before .before .before .before .before .before .before .before .before .before .before .before .before .before .before .before .before .before .before .before .before .before .before .before .before .before .before .before .before .before .before .before .args .names .now) (c .before .before .before .before .before .before .before .before .before .before .before .before .before .before .before .before .before .before .before .before .before .before .before .before .before .before .before .before .before .before .before .before .args .pool .now)) (c .before .before .before .before .before .before .before .before .before .before .before .before .before .before .before .before .before .before .before .before .before .before .before .before .before .before .before .before .before .before .before .before .args .left)) (c .before .before .before .before .before .before .before .before .before .before .before .before .before .before .before .before .before .before .before .before .before .before .before .before .before .before .before .before .before .before .before .before .args .state .at) (c .before .before .before .before .before .before .before .before .before .before .before .before .before .before .before .before .before .before .before .before .before .before .before .before .before .before .before .before .before .before .before .before .args .state .rows) (c .before .before .before .before .before .before .before .before .before .before .before .before .before .before .before .before .before .before .before .before .before .before .before .before .before .before .before .before .before .before .before .before .args .state .spans) (code-of (c .before .before .before .before .before .before .before .before .before .before .before .before .before .before .before .before .before .before .o .given .1) (c .before .before .before .before .before .before .before .before .before .before .before .before .before .before .before .before .before .before .before .before .before .before .read-code .ensures)) (was-read (c .before .before .before .before .before .before .before .before .before .before .before .before .before .before .count .given .1) (c .before .before .before .before .before .before .before .before .before .before .before .before .before .before .before .before .read-uvarint .ensures)) (c .before .before .before .before .before .before .before .before .before .before .before .write-row .ensures) (c .before .before .before .before .read-values .ensures))
+read-chunk-returns-2 t c =
+    let at-read-values = c .before .before .before .before in
+    let at-write-row = at-read-values .before .before .before .before .before .before .before in
+    let count = at-write-row .before .before .before .count in
+    let at-read-uvarint = at-write-row .before .before .before .before .before in
+    let o = at-read-uvarint .before .before .o in
+    let at-read-code = at-read-uvarint .before .before .before .before .before .before in
+    let if1 = at-read-code .before .before .if1 in
+    let args = at-read-code .before .before .before .before .before .before .before .before .before .before .args in
+    rw
+    (row-room (context (args .limits) (args .bytes .now) (args .names .now) (args .pool .now))
+    (readValue (context (args .limits) (args .bytes .now) (args .names .now) (args .pool .now)) (args .left)) (args .bytes .now) (args .state .at)
+    (args .state .rows) (args .state .spans) 32 (ItemKind.code ∷ []) values (if1 .left))
+    (did-chunk (args .limits) (args .bytes .now) (args .names .now) (args .pool .now)
+    (readValue (context (args .limits) (args .bytes .now) (args .names .now) (args .pool .now)) (args .left)) (args .state .at) (args .state .rows)
+    (args .state .spans) (code-of (o .given .1) (at-read-code .read-code .ensures)) (was-read (count .given .1) (at-read-uvarint .read-uvarint .ensures))
+    (at-write-row .write-row .ensures) (at-read-values .read-values .ensures))
 
 read-chunk-returns-3 : (t : ℕ) → read-chunk-lts.Need-returns-3 (read-chunk-known t) (read-chunk-at t) read-chunk.Post
 unfolding contextOf
-read-chunk-returns-3 t c = rw (row-room (context (c .before .before .before .before .before .before .before .before .before .before .before .before .before .before .before .before .before .before .before .args .limits) (c .before .before .before .before .before .before .before .before .before .before .before .before .before .before .before .before .before .before .before .args .bytes .now) (c .before .before .before .before .before .before .before .before .before .before .before .before .before .before .before .before .before .before .before .args .names .now) (c .before .before .before .before .before .before .before .before .before .before .before .before .before .before .before .before .before .before .before .args .pool .now)) (readValue (context (c .before .before .before .before .before .before .before .before .before .before .before .before .before .before .before .before .before .before .before .args .limits) (c .before .before .before .before .before .before .before .before .before .before .before .before .before .before .before .before .before .before .before .args .bytes .now) (c .before .before .before .before .before .before .before .before .before .before .before .before .before .before .before .before .before .before .before .args .names .now) (c .before .before .before .before .before .before .before .before .before .before .before .before .before .before .before .before .before .before .before .args .pool .now)) (c .before .before .before .before .before .before .before .before .before .before .before .before .before .before .before .before .before .before .before .args .left)) (c .before .before .before .before .before .before .before .before .before .before .before .before .before .before .before .before .before .before .before .args .bytes .now) (c .before .before .before .before .before .before .before .before .before .before .before .before .before .before .before .before .before .before .before .args .state .at) (c .before .before .before .before .before .before .before .before .before .before .before .before .before .before .before .before .before .before .before .args .state .rows) (c .before .before .before .before .before .before .before .before .before .before .before .before .before .before .before .before .before .before .before .args .state .spans) 32 (ItemKind.code ∷ []) values (c .before .before .before .before .before .before .before .before .before .before .before .if1 .left)) (record { out = no-chunk (c .before .before .before .before .before .before .before .before .before .before .before .before .before .before .before .before .before .before .before .args .limits) (c .before .before .before .before .before .before .before .before .before .before .before .before .before .before .before .before .before .before .before .args .bytes .now) (c .before .before .before .before .before .before .before .before .before .before .before .before .before .before .before .before .before .before .before .args .names .now) (c .before .before .before .before .before .before .before .before .before .before .before .before .before .before .before .before .before .before .before .args .pool .now) (readValue (context (c .before .before .before .before .before .before .before .before .before .before .before .before .before .before .before .before .before .before .before .args .limits) (c .before .before .before .before .before .before .before .before .before .before .before .before .before .before .before .before .before .before .before .args .bytes .now) (c .before .before .before .before .before .before .before .before .before .before .before .before .before .before .before .before .before .before .before .args .names .now) (c .before .before .before .before .before .before .before .before .before .before .before .before .before .before .before .before .before .before .before .args .pool .now)) (c .before .before .before .before .before .before .before .before .before .before .before .before .before .before .before .before .before .before .before .args .left)) (c .before .before .before .before .before .before .before .before .before .before .before .before .before .before .before .before .before .before .before .args .state .at) (c .before .before .before .before .before .before .before .before .before .before .before .before .before .before .before .before .before .before .before .args .state .rows) (c .before .before .before .before .before .before .before .before .before .before .before .before .before .before .before .before .before .before .before .args .state .spans) (code-of (c .before .before .before .before .before .o .given .1) (c .before .before .before .before .before .before .before .before .before .read-code .ensures)) (was-refused (c .before .n .given .1) (c .before .before .before .read-uvarint .ensures)) })
+read-chunk-returns-3 t c =
+    let at-o = c .before .before .before .before .before in
+    let at-read-code = at-o .before .before .before .before in
+    let if1 = at-read-code .before .before .if1 in
+    let args = at-read-code .before .before .before .before .before .before .before .before .before .before .args in
+    rw
+    (row-room (context (args .limits) (args .bytes .now) (args .names .now) (args .pool .now))
+    (readValue (context (args .limits) (args .bytes .now) (args .names .now) (args .pool .now)) (args .left)) (args .bytes .now) (args .state .at)
+    (args .state .rows) (args .state .spans) 32 (ItemKind.code ∷ []) values (if1 .left))
+    (record {
+      out = no-chunk (args .limits) (args .bytes .now) (args .names .now) (args .pool .now)
+          (readValue (context (args .limits) (args .bytes .now) (args .names .now) (args .pool .now)) (args .left)) (args .state .at) (args .state .rows)
+          (args .state .spans) (code-of (at-o .o .given .1) (at-read-code .read-code .ensures))
+          (was-refused (c .before .n .given .1) (c .before .before .before .read-uvarint .ensures));
+    })
 
 read-chunk-returns-4 : (t : ℕ) → read-chunk-lts.Need-returns-4 (read-chunk-known t) (read-chunk-at t) read-chunk.Post
 unfolding contextOf
-read-chunk-returns-4 t c = rw (row-room (context (c .before .before .before .before .before .before .before .before .before .before .before .before .before .before .before .args .limits) (c .before .before .before .before .before .before .before .before .before .before .before .before .before .before .before .args .bytes .now) (c .before .before .before .before .before .before .before .before .before .before .before .before .before .before .before .args .names .now) (c .before .before .before .before .before .before .before .before .before .before .before .before .before .before .before .args .pool .now)) (readValue (context (c .before .before .before .before .before .before .before .before .before .before .before .before .before .before .before .args .limits) (c .before .before .before .before .before .before .before .before .before .before .before .before .before .before .before .args .bytes .now) (c .before .before .before .before .before .before .before .before .before .before .before .before .before .before .before .args .names .now) (c .before .before .before .before .before .before .before .before .before .before .before .before .before .before .before .args .pool .now)) (c .before .before .before .before .before .before .before .before .before .before .before .before .before .before .before .args .left)) (c .before .before .before .before .before .before .before .before .before .before .before .before .before .before .before .args .bytes .now) (c .before .before .before .before .before .before .before .before .before .before .before .before .before .before .before .args .state .at) (c .before .before .before .before .before .before .before .before .before .before .before .before .before .before .before .args .state .rows) (c .before .before .before .before .before .before .before .before .before .before .before .before .before .before .before .args .state .spans) 32 (ItemKind.code ∷ []) values (c .before .before .before .before .before .before .before .if1 .left)) (record { out = no-code (c .before .before .before .before .before .before .before .before .before .before .before .before .before .before .before .args .limits) (c .before .before .before .before .before .before .before .before .before .before .before .before .before .before .before .args .bytes .now) (c .before .before .before .before .before .before .before .before .before .before .before .before .before .before .before .args .names .now) (c .before .before .before .before .before .before .before .before .before .before .before .before .before .before .before .args .pool .now) (readValue (context (c .before .before .before .before .before .before .before .before .before .before .before .before .before .before .before .args .limits) (c .before .before .before .before .before .before .before .before .before .before .before .before .before .before .before .args .bytes .now) (c .before .before .before .before .before .before .before .before .before .before .before .before .before .before .before .args .names .now) (c .before .before .before .before .before .before .before .before .before .before .before .before .before .before .before .args .pool .now)) (c .before .before .before .before .before .before .before .before .before .before .before .before .before .before .before .args .left)) (c .before .before .before .before .before .before .before .before .before .before .before .before .before .before .before .args .state .at) (c .before .before .before .before .before .before .before .before .before .before .before .before .before .before .before .args .state .rows) (c .before .before .before .before .before .before .before .before .before .before .before .before .before .before .before .args .state .spans) (no-code-of (c .before .n2 .given .1) (c .before .before .before .before .before .read-code .ensures)) })
+read-chunk-returns-4 t c =
+    let at-read-code = c .before .before .before .before .before in
+    let if1 = at-read-code .before .before .if1 in
+    let args = at-read-code .before .before .before .before .before .before .before .before .before .before .args in
+    rw
+    (row-room (context (args .limits) (args .bytes .now) (args .names .now) (args .pool .now))
+    (readValue (context (args .limits) (args .bytes .now) (args .names .now) (args .pool .now)) (args .left)) (args .bytes .now) (args .state .at)
+    (args .state .rows) (args .state .spans) 32 (ItemKind.code ∷ []) values (if1 .left))
+    (record {
+      out = no-code (args .limits) (args .bytes .now) (args .names .now) (args .pool .now)
+          (readValue (context (args .limits) (args .bytes .now) (args .names .now) (args .pool .now)) (args .left)) (args .state .at) (args .state .rows)
+          (args .state .spans) (no-code-of (c .before .n2 .given .1) (at-read-code .read-code .ensures));
+    })
 
 pub read-chunk-meets : {M : Type 1} (t : ℕ) → read-chunk-lts.Closed (read-chunk-known t) (read-chunk-at t) read-chunk.Post M
 read-chunk-meets t = read-chunk-lts.spec (read-chunk-known t) (read-chunk-at t)

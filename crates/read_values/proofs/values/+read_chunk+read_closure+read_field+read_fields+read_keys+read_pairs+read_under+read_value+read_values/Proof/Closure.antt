@@ -24,32 +24,136 @@ use Rattle.read_values.proofs.values.+read_chunk+read_closure+read_fiel
 use Rattle.read_values.proofs.values.+read_chunk+read_closure+read_field+read_fields+read_keys+read_pairs+read_under+read_value+read_values.Proof.Common.{read-closure-at, read-closure-known}
 
 read-closure-slice-read-if1 : (t : ℕ) → read-closure-lts.Need-slice-read-if1 (read-closure-known t) (read-closure-at t) read-closure.Post
-read-closure-slice-read-if1 t c = let g = ran-of (c .before .before .before .mid .given .1) (c .before .before .before .before .before .before .before .before .before .read-value .ensures) in omega (arith, g .1 .size, g .1 .used, some-words (g .0), c .before .before .before .before .before .before .before .before .before .before .before .before .before .before .before .before .before .pre .1 .0, c .before .before .before .before .before .before .before .before .before .read-value .kept)
+read-closure-slice-read-if1 t c =
+    let at-read-value = c .before .before .before .before .before .before .before .before .before in
+    let read-value = at-read-value .read-value in
+    let pre = at-read-value .before .before .before .before .before .before .before .before .pre in
+    let g = ran-of (c .before .before .before .mid .given .1) (read-value .ensures) in
+    omega (arith, g .1 .size, g .1 .used, some-words (g .0), pre .1 .0, read-value .kept)
 
 read-closure-returns : (t : ℕ) → read-closure-lts.Need-returns (read-closure-known t) (read-closure-at t) read-closure.Post
 unfolding shape shapes if_then_else_ shapeOf
-read-closure-returns t c = let g = ran-of (c .before .before .before .before .mid .given .1) (c .before .before .before .before .before .before .before .before .before .before .read-value .ensures) in record { out = closure-other (context (c .before .before .before .before .before .before .before .before .before .before .before .before .before .before .before .before .before .before .args .limits) (c .before .before .before .before .before .before .before .before .before .before .before .before .before .before .before .before .before .before .args .bytes .now) (c .before .before .before .before .before .before .before .before .before .before .before .before .before .before .before .before .before .before .args .names .now) (c .before .before .before .before .before .before .before .before .before .before .before .before .before .before .before .before .before .before .args .pool .now)) (readValue (context (c .before .before .before .before .before .before .before .before .before .before .before .before .before .before .before .before .before .before .args .limits) (c .before .before .before .before .before .before .before .before .before .before .before .before .before .before .before .before .before .before .args .bytes .now) (c .before .before .before .before .before .before .before .before .before .before .before .before .before .before .before .before .before .before .args .names .now) (c .before .before .before .before .before .before .before .before .before .before .before .before .before .before .before .before .before .before .args .pool .now)) (c .before .before .before .before .before .before .before .before .before .before .before .before .before .before .before .before .before .before .args .left)) 18 (ItemKind.number u16 ∷ []) (stateOf (c .before .before .before .before .before .before .before .before .before .before .before .before .before .before .before .before .before .before .args .bytes .now) (c .before .before .before .before .before .before .before .before .before .before .before .before .before .before .before .before .before .before .args .state)) (stateOf (c .before .before .before .before .before .before .before .before .before .before .before .before .before .before .before .before .before .before .args .bytes .now) (c .before .before .before .before .mid .given .0 .0)) (g .0) (g .1 .is) (λ q. c .if1 .taken ((first-tag _ _ _ (g .0) (g .1 .wrote) (omega (arith, c .before .before .before .before .before .before .before .before .before .before .before .before .before .before .before .before .before .before .pre .1 .0, g .1 .size, g .1 .used, some-words (g .0)))) ∙ q)) }
+read-closure-returns t c =
+    let at-mid = c .before .before .before .before in
+    let mid = at-mid .mid in
+    let at-read-value = at-mid .before .before .before .before .before .before in
+    let start = at-read-value .before .before .before .before .before .before .before .before in
+    let args = start .args in
+    let g = ran-of (mid .given .1) (at-read-value .read-value .ensures) in
+    record {
+      out = closure-other (context (args .limits) (args .bytes .now) (args .names .now) (args .pool .now))
+          (readValue (context (args .limits) (args .bytes .now) (args .names .now) (args .pool .now)) (args .left)) 18 (ItemKind.number u16 ∷ [])
+          (stateOf (args .bytes .now) (args .state)) (stateOf (args .bytes .now) (mid .given .0 .0)) (g .0) (g .1 .is)
+          (λ q. c .if1 .taken ((first-tag _ _ _ (g .0) (g .1 .wrote) (omega (arith, start .pre .1 .0, g .1 .size, g .1 .used, some-words (g .0)))) ∙ q));
+    }
 
 read-closure-write-row-requires : (t : ℕ) → read-closure-lts.Need-write-row-requires (read-closure-known t) (read-closure-at t) read-closure.Post
-read-closure-write-row-requires t c κs = omega (arith, c .before .before .before .before .before .before .before .before .before .before .before .before .before .before .before .before .before .before .before .before .before .before .before .pre .1 .0, c .before .before .before .before .before .before .before .before .before .before .before .before .before .before .before .read-value .kept, c .before .before .before .before .before .before .before .before .before .before .before .before .before .before .before .before .before .before .before .before .before .before .before .pre .1 .1 .1)
+read-closure-write-row-requires t c κs =
+    let at-read-value = c .before .before .before .before .before .before .before .before .before .before .before .before .before .before .before in
+    let pre = at-read-value .before .before .before .before .before .before .before .before .pre in
+    omega (arith, pre .1 .0, at-read-value .read-value .kept, pre .1 .1 .1)
 
 read-closure-read-values-requires : (t : ℕ) → read-closure-lts.Need-read-values-requires (read-closure-known t) (read-closure-at t) read-closure.Post
-read-closure-read-values-requires t c κs = let g = ran-of (c .before .before .before .before .before .before .before .before .before .before .before .before .before .before .mid .given .1) (c .before .before .before .before .before .before .before .before .before .before .before .before .before .before .before .before .before .before .before .before .read-value .ensures) in (omega (arith, c .before .before .before .before .before .before .before .before .before .before .before .before .before .before .before .before .before .before .before .before .before .before .before .before .before .before .before .before .pre .0), (omega (arith, c .before .before .before .before .before .before .before .before .before .before .before .before .before .before .before .before .before .before .before .before .before .before .before .before .before .before .before .before .pre .1 .0, c .before .before .before .before .before .before .before .before .before .before .before .before .before .before .before .before .before .before .before .before .read-value .kept, c .before .before .before .before .write-row .kept, g .1 .used, g .1 .covered, (row-of (c .before .before .before .before .before .before .before .a .given .1) (c .before .before .before .before .before .before .before .before .before .read-closure-head .ensures (c .before .before .before .before .before .before .before .before .before .before .before .before .before .before .before .before .before .before .before .before .before .before .before .before .before .before .before .before .args .names .now) (c .before .before .before .before .before .before .before .before .before .before .before .before .before .before .before .before .before .before .before .before .before .before .before .before .before .before .before .before .args .pool .now))) .is (capacities (c .before .before .before .before .before .before .before .before .before .before .before .before .before .before .before .before .before .before .before .before .before .before .before .before .before .before .before .before .args .limits)) .inside), c .before .before .before .before .before .before .before .before .before .before .before .before .before .before .before .before .before .before .before .before .before .before .before .before .before .before .before .before .pre .1 .1 .0))
+read-closure-read-values-requires t c κs =
+    let at-write-row = c .before .before .before .before in
+    let a = at-write-row .before .before .before .a in
+    let at-read-closure-head = at-write-row .before .before .before .before .before in
+    let at-mid = at-read-closure-head .before .before .before .before .before in
+    let at-read-value = at-mid .before .before .before .before .before .before in
+    let read-value = at-read-value .read-value in
+    let start = at-read-value .before .before .before .before .before .before .before .before in
+    let g = ran-of (at-mid .mid .given .1) (read-value .ensures) in (
+      omega (arith, start .pre .0),
+      (
+        omega (
+          arith,
+          start .pre .1 .0,
+          read-value .kept,
+          at-write-row .write-row .kept,
+          g .1 .used,
+          g .1 .covered,
+          (row-of (a .given .1) (at-read-closure-head .read-closure-head .ensures (start .args .names .now) (start .args .pool .now))) .is
+              (capacities (start .args .limits)) .inside,
+        ),
+        start .pre .1 .1 .0,
+      ),
+    )
 
 read-closure-same-length-3 : (t : ℕ) → read-closure-lts.Need-same-length-3 (read-closure-known t) (read-closure-at t) read-closure.Post
-read-closure-same-length-3 t c = omega (arith, c .before .before .before .before .before .before .before .before .before .before .before .before .before .before .before .before .before .before .before .before .before .before .before .before .before .read-value .kept, c .before .before .before .before .before .before .before .before .before .write-row .kept, c .before .before .before .before .read-values .kept)
+read-closure-same-length-3 t c =
+    let at-read-values = c .before .before .before .before in
+    let at-write-row = at-read-values .before .before .before .before .before in
+    let read-value = at-write-row .before .before .before .before .before .before .before .before .before .before .before .before .before .before .before
+    .before .read-value in
+    omega (arith, read-value .kept, at-write-row .write-row .kept, at-read-values .read-values .kept)
 
 read-closure-returns-2 : (t : ℕ) → read-closure-lts.Need-returns-2 (read-closure-known t) (read-closure-at t) read-closure.Post
 unfolding shape shapes if_then_else_ shapeOf andThen _>>=_ rowsUnder rootCount cons
-read-closure-returns-2 t c = let g = ran-of (c .before .before .before .before .before .before .before .before .before .before .before .before .before .before .before .before .before .before .before .mid .given .1) (c .before .before .before .before .before .before .before .before .before .before .before .before .before .before .before .before .before .before .before .before .before .before .before .before .before .read-value .ensures) in rw (closure-head (context (c .before .before .before .before .before .before .before .before .before .before .before .before .before .before .before .before .before .before .before .before .before .before .before .before .before .before .before .before .before .before .before .before .before .args .limits) (c .before .before .before .before .before .before .before .before .before .before .before .before .before .before .before .before .before .before .before .before .before .before .before .before .before .before .before .before .before .before .before .before .before .args .bytes .now) (c .before .before .before .before .before .before .before .before .before .before .before .before .before .before .before .before .before .before .before .before .before .before .before .before .before .before .before .before .before .before .before .before .before .args .names .now) (c .before .before .before .before .before .before .before .before .before .before .before .before .before .before .before .before .before .before .before .before .before .before .before .before .before .before .before .before .before .before .before .before .before .args .pool .now)) (readValue (context (c .before .before .before .before .before .before .before .before .before .before .before .before .before .before .before .before .before .before .before .before .before .before .before .before .before .before .before .before .before .before .before .before .before .args .limits) (c .before .before .before .before .before .before .before .before .before .before .before .before .before .before .before .before .before .before .before .before .before .before .before .before .before .before .before .before .before .before .before .before .before .args .bytes .now) (c .before .before .before .before .before .before .before .before .before .before .before .before .before .before .before .before .before .before .before .before .before .before .before .before .before .before .before .before .before .before .before .before .before .args .names .now) (c .before .before .before .before .before .before .before .before .before .before .before .before .before .before .before .before .before .before .before .before .before .before .before .before .before .before .before .before .before .before .before .before .before .args .pool .now)) (c .before .before .before .before .before .before .before .before .before .before .before .before .before .before .before .before .before .before .before .before .before .before .before .before .before .before .before .before .before .before .before .before .before .args .left)) 18 (ItemKind.number u16 ∷ []) (stateOf (c .before .before .before .before .before .before .before .before .before .before .before .before .before .before .before .before .before .before .before .before .before .before .before .before .before .before .before .before .before .before .before .before .before .args .bytes .now) (c .before .before .before .before .before .before .before .before .before .before .before .before .before .before .before .before .before .before .before .before .before .before .before .before .before .before .before .before .before .before .before .before .before .args .state)) (stateOf (c .before .before .before .before .before .before .before .before .before .before .before .before .before .before .before .before .before .before .before .before .before .before .before .before .before .before .before .before .before .before .before .before .before .args .bytes .now) (c .before .before .before .before .before .before .before .before .before .before .before .before .before .before .before .before .before .before .before .mid .given .0 .0)) (g .0) (g .1 .is) (sym (first-tag _ _ _ (g .0) (g .1 .wrote) (omega (arith, c .before .before .before .before .before .before .before .before .before .before .before .before .before .before .before .before .before .before .before .before .before .before .before .before .before .before .before .before .before .before .before .before .before .pre .1 .0, g .1 .size, g .1 .used, some-words (g .0)))) ∙ c .before .before .before .before .before .before .before .before .before .before .before .before .before .before .before .if1 .left), (row-of (c .before .before .before .before .before .before .before .before .before .before .before .before .a .given .1) (c .before .before .before .before .before .before .before .before .before .before .before .before .before .before .read-closure-head .ensures (c .before .before .before .before .before .before .before .before .before .before .before .before .before .before .before .before .before .before .before .before .before .before .before .before .before .before .before .before .before .before .before .before .before .args .names .now) (c .before .before .before .before .before .before .before .before .before .before .before .before .before .before .before .before .before .before .before .before .before .before .before .before .before .before .before .before .before .before .before .before .before .args .pool .now))) .is (capacities (c .before .before .before .before .before .before .before .before .before .before .before .before .before .before .before .before .before .before .before .before .before .before .before .before .before .before .before .before .before .before .before .before .before .args .limits)) .is _ _) (did-closure 18 ((row-of (c .before .before .before .before .before .before .before .before .before .before .before .before .a .given .1) (c .before .before .before .before .before .before .before .before .before .before .before .before .before .before .read-closure-head .ensures (c .before .before .before .before .before .before .before .before .before .before .before .before .before .before .before .before .before .before .before .before .before .before .before .before .before .before .before .before .before .before .before .before .before .args .names .now) (c .before .before .before .before .before .before .before .before .before .before .before .before .before .before .before .before .before .before .before .before .before .before .before .before .before .before .before .before .before .before .before .before .before .args .pool .now))) .items) (18 ∷ (c .before .before .before .before .before .before .before .before .before .before .before .before .a .given .0 .0) ∷ (c .before .before .before .before .before .before .before .before .before .before .before .before .a .given .0 .1 .0) ∷ (c .before .before .before .before .before .before .before .before .before .before .before .before .a .given .0 .1 .1 .0) ∷ (c .before .before .before .before .before .before .before .before .before .before .before .before .a .given .0 .1 .1 .1 .0) ∷ []) (c .before .before .before .before .before .before .before .before .before .before .before .before .before .before .before .before .before .before .before .before .before .before .before .before .before .before .before .before .before .before .before .before .before .pre .1 .1 .1) (g .1) (c .before .before .before .before .before .before .before .before .before .write-row .ensures) refl ((row-of (c .before .before .before .before .before .before .before .before .before .before .before .before .a .given .1) (c .before .before .before .before .before .before .before .before .before .before .before .before .before .before .read-closure-head .ensures (c .before .before .before .before .before .before .before .before .before .before .before .before .before .before .before .before .before .before .before .before .before .before .before .before .before .before .before .before .before .before .before .before .before .args .names .now) (c .before .before .before .before .before .before .before .before .before .before .before .before .before .before .before .before .before .before .before .before .before .before .before .before .before .before .before .before .before .before .before .before .before .args .pool .now))) .no-spans) (λ ts z q. row-told 18 (shapeOf Closure) refl ((row-of (c .before .before .before .before .before .before .before .before .before .before .before .before .a .given .1) (c .before .before .before .before .before .before .before .before .before .before .before .before .before .before .read-closure-head .ensures (c .before .before .before .before .before .before .before .before .before .before .before .before .before .before .before .before .before .before .before .before .before .before .before .before .before .before .before .before .before .before .before .before .before .args .names .now) (c .before .before .before .before .before .before .before .before .before .before .before .before .before .before .before .before .before .before .before .before .before .before .before .before .before .before .before .before .before .before .before .before .before .args .pool .now))) .items) (c .before .before .before .before .before .before .before .before .before .before .before .before .a .given .0 .1 .1 .1 .1 .0) _ ((row-of (c .before .before .before .before .before .before .before .before .before .before .before .before .a .given .1) (c .before .before .before .before .before .before .before .before .before .before .before .before .before .before .read-closure-head .ensures (c .before .before .before .before .before .before .before .before .before .before .before .before .before .before .before .before .before .before .before .before .before .before .before .before .before .before .before .before .before .before .before .before .before .args .names .now) (c .before .before .before .before .before .before .before .before .before .before .before .before .before .before .before .before .before .before .before .before .before .before .before .before .before .before .before .before .before .before .before .before .before .args .pool .now))) .words) ((row-of (c .before .before .before .before .before .before .before .before .before .before .before .before .a .given .1) (c .before .before .before .before .before .before .before .before .before .before .before .before .before .before .read-closure-head .ensures (c .before .before .before .before .before .before .before .before .before .before .before .before .before .before .before .before .before .before .before .before .before .before .before .before .before .before .before .before .before .before .before .before .before .args .names .now) (c .before .before .before .before .before .before .before .before .before .before .before .before .before .before .before .before .before .before .before .before .before .before .before .before .before .before .before .before .before .before .before .before .before .args .pool .now))) .told) (ap suc (sym (many-count (context (c .before .before .before .before .before .before .before .before .before .before .before .before .before .before .before .before .before .before .before .before .before .before .before .before .before .before .before .before .before .before .before .before .before .args .limits) (c .before .before .before .before .before .before .before .before .before .before .before .before .before .before .before .before .before .before .before .before .before .before .before .before .before .before .before .before .before .before .before .before .before .args .bytes .now) (c .before .before .before .before .before .before .before .before .before .before .before .before .before .before .before .before .before .before .before .before .before .before .before .before .before .before .before .before .before .before .before .before .before .args .names .now) (c .before .before .before .before .before .before .before .before .before .before .before .before .before .before .before .before .before .before .before .before .before .before .before .before .before .before .before .before .before .before .before .before .before .args .pool .now)) (readValue (context (c .before .before .before .before .before .before .before .before .before .before .before .before .before .before .before .before .before .before .before .before .before .before .before .before .before .before .before .before .before .before .before .before .before .args .limits) (c .before .before .before .before .before .before .before .before .before .before .before .before .before .before .before .before .before .before .before .before .before .before .before .before .before .before .before .before .before .before .before .before .before .args .bytes .now) (c .before .before .before .before .before .before .before .before .before .before .before .before .before .before .before .before .before .before .before .before .before .before .before .before .before .before .before .before .before .before .before .before .before .args .names .now) (c .before .before .before .before .before .before .before .before .before .before .before .before .before .before .before .before .before .before .before .before .before .before .before .before .before .before .before .before .before .before .before .before .before .args .pool .now)) (c .before .before .before .before .before .before .before .before .before .before .before .before .before .before .before .before .before .before .before .before .before .before .before .before .before .before .before .before .before .before .before .before .before .args .left)) (readValue (context (c .before .before .before .before .before .before .before .before .before .before .before .before .before .before .before .before .before .before .before .before .before .before .before .before .before .before .before .before .before .before .before .before .before .args .limits) (c .before .before .before .before .before .before .before .before .before .before .before .before .before .before .before .before .before .before .before .before .before .before .before .before .before .before .before .before .before .before .before .before .before .args .bytes .now) (c .before .before .before .before .before .before .before .before .before .before .before .before .before .before .before .before .before .before .before .before .before .before .before .before .before .before .before .before .before .before .before .before .before .args .names .now) (c .before .before .before .before .before .before .before .before .before .before .before .before .before .before .before .before .before .before .before .before .before .before .before .before .before .before .before .before .before .before .before .before .before .args .pool .now)) (c .before .before .before .before .before .before .before .before .before .before .before .before .before .before .before .before .before .before .before .before .before .before .before .before .before .before .before .before .before .before .before .before .before .args .left)) _ _ ts z q)))) (c .before .before .before .before .read-values .ensures))
+read-closure-returns-2 t c =
+    let at-read-values = c .before .before .before .before in
+    let at-write-row = at-read-values .before .before .before .before .before in
+    let a = at-write-row .before .before .before .a in
+    let at-read-closure-head = at-write-row .before .before .before .before .before in
+    let read-closure-head = at-read-closure-head .read-closure-head in
+    let if1 = at-read-closure-head .before .if1 in
+    let at-mid = at-read-closure-head .before .before .before .before .before in
+    let mid = at-mid .mid in
+    let at-read-value = at-mid .before .before .before .before .before .before in
+    let start = at-read-value .before .before .before .before .before .before .before .before in
+    let args = start .args in
+    let g = ran-of (mid .given .1) (at-read-value .read-value .ensures) in
+    rw (
+      closure-head (context (args .limits) (args .bytes .now) (args .names .now) (args .pool .now))
+          (readValue (context (args .limits) (args .bytes .now) (args .names .now) (args .pool .now)) (args .left)) 18 (ItemKind.number u16 ∷ [])
+          (stateOf (args .bytes .now) (args .state)) (stateOf (args .bytes .now) (mid .given .0 .0)) (g .0) (g .1 .is)
+          (sym (first-tag _ _ _ (g .0) (g .1 .wrote) (omega (arith, start .pre .1 .0, g .1 .size, g .1 .used, some-words (g .0)))) ∙ if1 .left),
+      (row-of (a .given .1) (read-closure-head .ensures (args .names .now) (args .pool .now))) .is (capacities (args .limits)) .is _ _,
+    )
+    (did-closure 18 ((row-of (a .given .1) (read-closure-head .ensures (args .names .now) (args .pool .now))) .items)
+    (18 ∷ (a .given .0 .0) ∷ (a .given .0 .1 .0) ∷ (a .given .0 .1 .1 .0) ∷ (a .given .0 .1 .1 .1 .0) ∷ []) (start .pre .1 .1 .1) (g .1)
+    (at-write-row .write-row .ensures) refl ((row-of (a .given .1) (read-closure-head .ensures (args .names .now) (args .pool .now))) .no-spans)
+    (λ ts z q.
+    row-told 18 (shapeOf Closure) refl ((row-of (a .given .1) (read-closure-head .ensures (args .names .now) (args .pool .now))) .items)
+    (a .given .0 .1 .1 .1 .1 .0) _ ((row-of (a .given .1) (read-closure-head .ensures (args .names .now) (args .pool .now))) .words)
+    ((row-of (a .given .1) (read-closure-head .ensures (args .names .now) (args .pool .now))) .told)
+    (ap suc
+    (sym
+    (many-count (context (args .limits) (args .bytes .now) (args .names .now) (args .pool .now))
+    (readValue (context (args .limits) (args .bytes .now) (args .names .now) (args .pool .now)) (args .left))
+    (readValue (context (args .limits) (args .bytes .now) (args .names .now) (args .pool .now)) (args .left)) _ _ ts z q))))
+    (at-read-values .read-values .ensures))
 
 read-closure-returns-3 : (t : ℕ) → read-closure-lts.Need-returns-3 (read-closure-known t) (read-closure-at t) read-closure.Post
 unfolding shape shapes if_then_else_ shapeOf andThen
-read-closure-returns-3 t c = let g = ran-of (c .before .before .before .before .before .before .before .before .mid .given .1) (c .before .before .before .before .before .before .before .before .before .before .before .before .before .before .read-value .ensures) in record { out = rw (closure-head (context (c .before .before .before .before .before .before .before .before .before .before .before .before .before .before .before .before .before .before .before .before .before .before .args .limits) (c .before .before .before .before .before .before .before .before .before .before .before .before .before .before .before .before .before .before .before .before .before .before .args .bytes .now) (c .before .before .before .before .before .before .before .before .before .before .before .before .before .before .before .before .before .before .before .before .before .before .args .names .now) (c .before .before .before .before .before .before .before .before .before .before .before .before .before .before .before .before .before .before .before .before .before .before .args .pool .now)) (readValue (context (c .before .before .before .before .before .before .before .before .before .before .before .before .before .before .before .before .before .before .before .before .before .before .args .limits) (c .before .before .before .before .before .before .before .before .before .before .before .before .before .before .before .before .before .before .before .before .before .before .args .bytes .now) (c .before .before .before .before .before .before .before .before .before .before .before .before .before .before .before .before .before .before .before .before .before .before .args .names .now) (c .before .before .before .before .before .before .before .before .before .before .before .before .before .before .before .before .before .before .before .before .before .before .args .pool .now)) (c .before .before .before .before .before .before .before .before .before .before .before .before .before .before .before .before .before .before .before .before .before .before .args .left)) 18 (ItemKind.number u16 ∷ []) (stateOf (c .before .before .before .before .before .before .before .before .before .before .before .before .before .before .before .before .before .before .before .before .before .before .args .bytes .now) (c .before .before .before .before .before .before .before .before .before .before .before .before .before .before .before .before .before .before .before .before .before .before .args .state)) (stateOf (c .before .before .before .before .before .before .before .before .before .before .before .before .before .before .before .before .before .before .before .before .before .before .args .bytes .now) (c .before .before .before .before .before .before .before .before .mid .given .0 .0)) (g .0) (g .1 .is) (sym (first-tag _ _ _ (g .0) (g .1 .wrote) (omega (arith, c .before .before .before .before .before .before .before .before .before .before .before .before .before .before .before .before .before .before .before .before .before .before .pre .1 .0, g .1 .size, g .1 .used, some-words (g .0)))) ∙ c .before .before .before .before .if1 .left), (no-row (c .before .n .given .1) (c .before .before .before .read-closure-head .ensures (c .before .before .before .before .before .before .before .before .before .before .before .before .before .before .before .before .before .before .before .before .before .before .args .names .now) (c .before .before .before .before .before .before .before .before .before .before .before .before .before .before .before .before .before .before .before .before .before .before .args .pool .now))) (capacities (c .before .before .before .before .before .before .before .before .before .before .before .before .before .before .before .before .before .before .before .before .before .before .args .limits)) .is _ _) }
+read-closure-returns-3 t c =
+    let at-if1 = c .before .before .before .before in
+    let at-mid = at-if1 .before .before .before .before in
+    let mid = at-mid .mid in
+    let at-read-value = at-mid .before .before .before .before .before .before in
+    let start = at-read-value .before .before .before .before .before .before .before .before in
+    let args = start .args in
+    let g = ran-of (mid .given .1) (at-read-value .read-value .ensures) in
+    record {
+      out = rw (
+        closure-head (context (args .limits) (args .bytes .now) (args .names .now) (args .pool .now))
+            (readValue (context (args .limits) (args .bytes .now) (args .names .now) (args .pool .now)) (args .left)) 18 (ItemKind.number u16 ∷ [])
+            (stateOf (args .bytes .now) (args .state)) (stateOf (args .bytes .now) (mid .given .0 .0)) (g .0) (g .1 .is)
+            (sym (first-tag _ _ _ (g .0) (g .1 .wrote) (omega (arith, start .pre .1 .0, g .1 .size, g .1 .used, some-words (g .0)))) ∙ at-if1 .if1 .left),
+        (no-row (c .before .n .given .1) (c .before .before .before .read-closure-head .ensures (args .names .now) (args .pool .now)))
+            (capacities (args .limits)) .is _ _,
+      );
+    }
 
 read-closure-returns-4 : (t : ℕ) → read-closure-lts.Need-returns-4 (read-closure-known t) (read-closure-at t) read-closure.Post
 unfolding shape shapes if_then_else_ shapeOf
-read-closure-returns-4 t c = record { out = closure-no (context (c .before .before .before .before .before .before .before .before .before .before .before .before .before .before .before .args .limits) (c .before .before .before .before .before .before .before .before .before .before .before .before .before .before .before .args .bytes .now) (c .before .before .before .before .before .before .before .before .before .before .before .before .before .before .before .args .names .now) (c .before .before .before .before .before .before .before .before .before .before .before .before .before .before .before .args .pool .now)) (readValue (context (c .before .before .before .before .before .before .before .before .before .before .before .before .before .before .before .args .limits) (c .before .before .before .before .before .before .before .before .before .before .before .before .before .before .before .args .bytes .now) (c .before .before .before .before .before .before .before .before .before .before .before .before .before .before .before .args .names .now) (c .before .before .before .before .before .before .before .before .before .before .before .before .before .before .before .args .pool .now)) (c .before .before .before .before .before .before .before .before .before .before .before .before .before .before .before .args .left)) 18 (ItemKind.number u16 ∷ []) (stateOf (c .before .before .before .before .before .before .before .before .before .before .before .before .before .before .before .args .bytes .now) (c .before .before .before .before .before .before .before .before .before .before .before .before .before .before .before .args .state)) (no-of (c .before .n2 .given .1) (c .before .before .before .before .before .before .before .read-value .ensures)) }
+read-closure-returns-4 t c =
+    let at-read-value = c .before .before .before .before .before .before .before in
+    let args = at-read-value .before .before .before .before .before .before .before .before .args in
+    record {
+      out = closure-no (context (args .limits) (args .bytes .now) (args .names .now) (args .pool .now))
+          (readValue (context (args .limits) (args .bytes .now) (args .names .now) (args .pool .now)) (args .left)) 18 (ItemKind.number u16 ∷ [])
+          (stateOf (args .bytes .now) (args .state)) (no-of (c .before .n2 .given .1) (at-read-value .read-value .ensures));
+    }
 
 pub read-closure-meets : {M : Type 1} (t : ℕ) → read-closure-lts.Closed (read-closure-known t) (read-closure-at t) read-closure.Post M
 read-closure-meets t = read-closure-lts.spec (read-closure-known t) (read-closure-at t)

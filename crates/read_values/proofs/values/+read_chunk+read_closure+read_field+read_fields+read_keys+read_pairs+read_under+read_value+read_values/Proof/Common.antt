@@ -145,10 +145,24 @@ abbrev pub read-values-known : ℕ → read-values-lts.Claims
 read-values-known t = (read-value-below t, read-value.Post)
 
 abbrev pub read-value-known : ℕ → read-value-lts.Claims
-read-value-known t = (read-closure-below t, read-closure.Post, class-of-reads.Asked, class-of-reads.Learnt, read-head-reads.Asked, read-head-reads.Learnt, write-row-reads.Asked, write-row-reads.Learnt, read-chunk-below t, read-chunk.Post, read-under-below t, read-under.Post)
+read-value-known t = (
+  read-closure-below t,
+  read-closure.Post,
+  class-of-reads.Asked,
+  class-of-reads.Learnt,
+  read-head-reads.Asked,
+  read-head-reads.Learnt,
+  write-row-reads.Asked,
+  write-row-reads.Learnt,
+  read-chunk-below t,
+  read-chunk.Post,
+  read-under-below t,
+  read-under.Post,
+)
 
 abbrev pub read-under-known : ℕ → read-under-lts.Claims
-read-under-known t = (read-keys-below t, read-keys.Post, read-pairs-below t, read-pairs.Post, read-fields-below t, read-fields.Post, read-values-below t, read-values.Post)
+read-under-known t =
+    (read-keys-below t, read-keys.Post, read-pairs-below t, read-pairs.Post, read-fields-below t, read-fields.Post, read-values-below t, read-values.Post)
 
 abbrev pub read-pairs-known : ℕ → read-pairs-lts.Claims
 read-pairs-known t = (read-value-below t, read-value.Post, test-key-reads.Asked, test-key-reads.Learnt)
@@ -160,10 +174,29 @@ abbrev pub read-fields-known : ℕ → read-fields-lts.Claims
 read-fields-known t = (read-field-below t, read-field.Post)
 
 abbrev pub read-field-known : ℕ → read-field-lts.Claims
-read-field-known t = (read-field-head-reads.Asked, read-field-head-reads.Learnt, write-row-reads.Asked, write-row-reads.Learnt, read-values-below t, read-values.Post)
+read-field-known t =
+    (read-field-head-reads.Asked, read-field-head-reads.Learnt, write-row-reads.Asked, write-row-reads.Learnt, read-values-below t, read-values.Post)
 
 abbrev pub read-closure-known : ℕ → read-closure-lts.Claims
-read-closure-known t = (read-value-below t, read-value.Post, read-closure-head-reads.Asked, read-closure-head-reads.Learnt, write-row-reads.Asked, write-row-reads.Learnt, read-values-below t, read-values.Post)
+read-closure-known t = (
+  read-value-below t,
+  read-value.Post,
+  read-closure-head-reads.Asked,
+  read-closure-head-reads.Learnt,
+  write-row-reads.Asked,
+  write-row-reads.Learnt,
+  read-values-below t,
+  read-values.Post,
+)
 
 abbrev pub read-chunk-known : ℕ → read-chunk-lts.Claims
-read-chunk-known t = (read-code-reads.Asked, read-code-reads.Learnt, read-uvarint-reads.Asked, read-uvarint-reads.Learnt, write-row-reads.Asked, write-row-reads.Learnt, read-values-below t, read-values.Post)
+read-chunk-known t = (
+  read-code-reads.Asked,
+  read-code-reads.Learnt,
+  read-uvarint-reads.Asked,
+  read-uvarint-reads.Learnt,
+  write-row-reads.Asked,
+  write-row-reads.Learnt,
+  read-values-below t,
+  read-values.Post,
+)

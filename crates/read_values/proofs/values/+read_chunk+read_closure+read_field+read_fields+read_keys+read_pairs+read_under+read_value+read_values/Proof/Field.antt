@@ -20,24 +20,76 @@ use Rattle.read_values.proofs.values.+read_chunk+read_closure+read_fiel
 
 read-field-returns : (t : ℕ) → read-field-lts.Need-returns (read-field-known t) (read-field-at t) read-field.Post
 unfolding contextOf
-read-field-returns t c = record { out = row-full (context (c .before .before .before .before .before .before .before .before .args .limits) (c .before .before .before .before .before .before .before .before .args .bytes .now) (c .before .before .before .before .before .before .before .before .args .names .now) (c .before .before .before .before .before .before .before .before .args .pool .now)) (readValue (context (c .before .before .before .before .before .before .before .before .args .limits) (c .before .before .before .before .before .before .before .before .args .bytes .now) (c .before .before .before .before .before .before .before .before .args .names .now) (c .before .before .before .before .before .before .before .before .args .pool .now)) (c .before .before .before .before .before .before .before .before .args .left)) (c .before .before .before .before .before .before .before .before .args .bytes .now) (c .before .before .before .before .before .before .before .before .args .state .at) (c .before .before .before .before .before .before .before .before .args .state .rows) (c .before .before .before .before .before .before .before .before .args .state .spans) 33 (ItemKind.string ∷ []) oneValue (c .if1 .taken) }
+read-field-returns t c =
+    let args = c .before .before .before .before .before .before .before .before .args in
+    record {
+      out = row-full (context (args .limits) (args .bytes .now) (args .names .now) (args .pool .now))
+          (readValue (context (args .limits) (args .bytes .now) (args .names .now) (args .pool .now)) (args .left)) (args .bytes .now) (args .state .at)
+          (args .state .rows) (args .state .spans) 33 (ItemKind.string ∷ []) oneValue (c .if1 .taken);
+    }
 
 read-field-read-field-head-requires : (t : ℕ) → read-field-lts.Need-read-field-head-requires (read-field-known t) (read-field-at t) read-field.Post
 read-field-read-field-head-requires t c κs = c .before .before .before .before .before .before .before .before .pre .1 .1
 
 read-field-write-row-requires : (t : ℕ) → read-field-lts.Need-write-row-requires (read-field-known t) (read-field-at t) read-field.Post
-read-field-write-row-requires t c κs = omega (arith, c .before .before .before .before .before .before .before .before .before .before .before .before .before .pre .1 .0, c .before .before .before .before .before .if1 .left)
+read-field-write-row-requires t c κs =
+    let at-if1 = c .before .before .before .before .before in
+    let pre = at-if1 .before .before .before .before .before .before .before .before .pre in
+    omega (arith, pre .1 .0, at-if1 .if1 .left)
 
 read-field-read-values-requires : (t : ℕ) → read-field-lts.Need-read-values-requires (read-field-known t) (read-field-at t) read-field.Post
-read-field-read-values-requires t c κs = (omega (arith, c .before .before .before .before .before .before .before .before .before .before .before .before .before .before .before .before .before .before .before .pre .0), (omega (arith, c .before .before .before .before .before .before .before .before .before .before .before .before .before .before .before .before .before .before .before .pre .1 .0, c .before .before .before .before .before .write-row .kept, c .before .before .before .before .before .before .before .before .before .before .before .if1 .left, (row-of (c .before .before .before .before .before .before .before .before .a .given .1) (c .before .before .before .before .before .before .before .before .before .before .read-field-head .ensures (c .before .before .before .before .before .before .before .before .before .before .before .before .before .before .before .before .before .before .before .args .names .now))) .is (capacities (c .before .before .before .before .before .before .before .before .before .before .before .before .before .before .before .before .before .before .before .args .limits)) .inside), c .before .before .before .before .before .before .before .before .before .before .before .before .before .before .before .before .before .before .before .pre .1 .1))
+read-field-read-values-requires t c κs =
+    let at-write-row = c .before .before .before .before .before in
+    let a = at-write-row .before .before .before .a in
+    let at-read-field-head = at-write-row .before .before .before .before .before in
+    let if1 = at-read-field-head .before .if1 in
+    let start = at-read-field-head .before .before .before .before .before .before .before .before .before in (
+      omega (arith, start .pre .0),
+      (
+        omega (
+          arith,
+          start .pre .1 .0,
+          at-write-row .write-row .kept,
+          if1 .left,
+          (row-of (a .given .1) (at-read-field-head .read-field-head .ensures (start .args .names .now))) .is (capacities (start .args .limits)) .inside,
+        ),
+        start .pre .1 .1,
+      ),
+    )
 
 read-field-returns-2 : (t : ℕ) → read-field-lts.Need-returns-2 (read-field-known t) (read-field-at t) read-field.Post
 unfolding contextOf shape if_then_else_ noTemplate readUnder
-read-field-returns-2 t c = rw (row-room (context (c .before .before .before .before .before .before .before .before .before .before .before .before .before .before .before .before .before .before .before .before .before .before .before .before .args .limits) (c .before .before .before .before .before .before .before .before .before .before .before .before .before .before .before .before .before .before .before .before .before .before .before .before .args .bytes .now) (c .before .before .before .before .before .before .before .before .before .before .before .before .before .before .before .before .before .before .before .before .before .before .before .before .args .names .now) (c .before .before .before .before .before .before .before .before .before .before .before .before .before .before .before .before .before .before .before .before .before .before .before .before .args .pool .now)) (readValue (context (c .before .before .before .before .before .before .before .before .before .before .before .before .before .before .before .before .before .before .before .before .before .before .before .before .args .limits) (c .before .before .before .before .before .before .before .before .before .before .before .before .before .before .before .before .before .before .before .before .before .before .before .before .args .bytes .now) (c .before .before .before .before .before .before .before .before .before .before .before .before .before .before .before .before .before .before .before .before .before .before .before .before .args .names .now) (c .before .before .before .before .before .before .before .before .before .before .before .before .before .before .before .before .before .before .before .before .before .before .before .before .args .pool .now)) (c .before .before .before .before .before .before .before .before .before .before .before .before .before .before .before .before .before .before .before .before .before .before .before .before .args .left)) (c .before .before .before .before .before .before .before .before .before .before .before .before .before .before .before .before .before .before .before .before .before .before .before .before .args .bytes .now) (c .before .before .before .before .before .before .before .before .before .before .before .before .before .before .before .before .before .before .before .before .before .before .before .before .args .state .at) (c .before .before .before .before .before .before .before .before .before .before .before .before .before .before .before .before .before .before .before .before .before .before .before .before .args .state .rows) (c .before .before .before .before .before .before .before .before .before .before .before .before .before .before .before .before .before .before .before .before .before .before .before .before .args .state .spans) 33 (ItemKind.string ∷ []) oneValue (c .before .before .before .before .before .before .before .before .before .before .before .before .before .before .before .before .if1 .left)) (did-shape (c .before .before .before .before .before .before .before .before .before .before .before .before .before .before .before .before .before .before .before .before .before .before .before .before .args .limits) (c .before .before .before .before .before .before .before .before .before .before .before .before .before .before .before .before .before .before .before .before .before .before .before .before .args .bytes .now) (c .before .before .before .before .before .before .before .before .before .before .before .before .before .before .before .before .before .before .before .before .before .before .before .before .args .names .now) (c .before .before .before .before .before .before .before .before .before .before .before .before .before .before .before .before .before .before .before .before .before .before .before .before .args .pool .now) (readValue (context (c .before .before .before .before .before .before .before .before .before .before .before .before .before .before .before .before .before .before .before .before .before .before .before .before .args .limits) (c .before .before .before .before .before .before .before .before .before .before .before .before .before .before .before .before .before .before .before .before .before .before .before .before .args .bytes .now) (c .before .before .before .before .before .before .before .before .before .before .before .before .before .before .before .before .before .before .before .before .before .before .before .before .args .names .now) (c .before .before .before .before .before .before .before .before .before .before .before .before .before .before .before .before .before .before .before .before .before .before .before .before .args .pool .now)) (c .before .before .before .before .before .before .before .before .before .before .before .before .before .before .before .before .before .before .before .before .before .before .before .before .args .left)) 33 (withKids (ItemKind.string ∷ []) oneValue) refl refl (c .before .before .before .before .before .before .before .before .before .before .before .before .before .before .before .before .before .before .before .before .before .before .before .before .args .state .at) (row-of (c .before .before .before .before .before .before .before .before .before .before .before .before .before .a .given .1) (c .before .before .before .before .before .before .before .before .before .before .before .before .before .before .before .read-field-head .ensures (c .before .before .before .before .before .before .before .before .before .before .before .before .before .before .before .before .before .before .before .before .before .before .before .before .args .names .now))) (c .before .before .before .before .before .before .before .before .before .before .write-row .ensures) (c .before .before .before .before .read-values .ensures))
+read-field-returns-2 t c =
+    let at-read-values = c .before .before .before .before in
+    let at-write-row = at-read-values .before .before .before .before .before .before in
+    let a = at-write-row .before .before .before .a in
+    let at-read-field-head = at-write-row .before .before .before .before .before in
+    let if1 = at-read-field-head .before .if1 in
+    let args = at-read-field-head .before .before .before .before .before .before .before .before .before .args in
+    rw
+    (row-room (context (args .limits) (args .bytes .now) (args .names .now) (args .pool .now))
+    (readValue (context (args .limits) (args .bytes .now) (args .names .now) (args .pool .now)) (args .left)) (args .bytes .now) (args .state .at)
+    (args .state .rows) (args .state .spans) 33 (ItemKind.string ∷ []) oneValue (if1 .left))
+    (did-shape (args .limits) (args .bytes .now) (args .names .now) (args .pool .now)
+    (readValue (context (args .limits) (args .bytes .now) (args .names .now) (args .pool .now)) (args .left)) 33 (withKids (ItemKind.string ∷ []) oneValue) refl
+    refl (args .state .at) (row-of (a .given .1) (at-read-field-head .read-field-head .ensures (args .names .now))) (at-write-row .write-row .ensures)
+    (at-read-values .read-values .ensures))
 
 read-field-returns-3 : (t : ℕ) → read-field-lts.Need-returns-3 (read-field-known t) (read-field-at t) read-field.Post
 unfolding contextOf shape if_then_else_ noTemplate readUnder
-read-field-returns-3 t c = rw (row-room (context (c .before .before .before .before .before .before .before .before .before .before .before .before .args .limits) (c .before .before .before .before .before .before .before .before .before .before .before .before .args .bytes .now) (c .before .before .before .before .before .before .before .before .before .before .before .before .args .names .now) (c .before .before .before .before .before .before .before .before .before .before .before .before .args .pool .now)) (readValue (context (c .before .before .before .before .before .before .before .before .before .before .before .before .args .limits) (c .before .before .before .before .before .before .before .before .before .before .before .before .args .bytes .now) (c .before .before .before .before .before .before .before .before .before .before .before .before .args .names .now) (c .before .before .before .before .before .before .before .before .before .before .before .before .args .pool .now)) (c .before .before .before .before .before .before .before .before .before .before .before .before .args .left)) (c .before .before .before .before .before .before .before .before .before .before .before .before .args .bytes .now) (c .before .before .before .before .before .before .before .before .before .before .before .before .args .state .at) (c .before .before .before .before .before .before .before .before .before .before .before .before .args .state .rows) (c .before .before .before .before .before .before .before .before .before .before .before .before .args .state .spans) 33 (ItemKind.string ∷ []) oneValue (c .before .before .before .before .if1 .left)) (record { out = no-shape (c .before .before .before .before .before .before .before .before .before .before .before .before .args .limits) (c .before .before .before .before .before .before .before .before .before .before .before .before .args .bytes .now) (c .before .before .before .before .before .before .before .before .before .before .before .before .args .names .now) (c .before .before .before .before .before .before .before .before .before .before .before .before .args .pool .now) (readValue (context (c .before .before .before .before .before .before .before .before .before .before .before .before .args .limits) (c .before .before .before .before .before .before .before .before .before .before .before .before .args .bytes .now) (c .before .before .before .before .before .before .before .before .before .before .before .before .args .names .now) (c .before .before .before .before .before .before .before .before .before .before .before .before .args .pool .now)) (c .before .before .before .before .before .before .before .before .before .before .before .before .args .left)) 33 (withKids (ItemKind.string ∷ []) oneValue) refl refl (c .before .before .before .before .before .before .before .before .before .before .before .before .args .state .rows) (c .before .before .before .before .before .before .before .before .before .before .before .before .args .state .spans) (c .before .before .before .before .before .before .before .before .before .before .before .before .args .state .at) (no-row (c .before .n .given .1) (c .before .before .before .read-field-head .ensures (c .before .before .before .before .before .before .before .before .before .before .before .before .args .names .now))) })
+read-field-returns-3 t c =
+    let at-if1 = c .before .before .before .before in
+    let args = at-if1 .before .before .before .before .before .before .before .before .args in
+    rw
+    (row-room (context (args .limits) (args .bytes .now) (args .names .now) (args .pool .now))
+    (readValue (context (args .limits) (args .bytes .now) (args .names .now) (args .pool .now)) (args .left)) (args .bytes .now) (args .state .at)
+    (args .state .rows) (args .state .spans) 33 (ItemKind.string ∷ []) oneValue (at-if1 .if1 .left))
+    (record {
+      out = no-shape (args .limits) (args .bytes .now) (args .names .now) (args .pool .now)
+          (readValue (context (args .limits) (args .bytes .now) (args .names .now) (args .pool .now)) (args .left)) 33 (withKids (ItemKind.string ∷ []) oneValue)
+          refl refl (args .state .rows) (args .state .spans) (args .state .at)
+          (no-row (c .before .n .given .1) (c .before .before .before .read-field-head .ensures (args .names .now)));
+    })
 
 pub read-field-meets : {M : Type 1} (t : ℕ) → read-field-lts.Closed (read-field-known t) (read-field-at t) read-field.Post M
 read-field-meets t = read-field-lts.spec (read-field-known t) (read-field-at t)

@@ -10,16 +10,23 @@ use Rattle.read_values.proofs.values.+read_chunk+read_closure+read_fiel
 use Rattle.read_values.proofs.values.+read_chunk+read_closure+read_field+read_fields+read_keys+read_pairs+read_under+read_value+read_values.Proof.Common.{read-values-at, read-values-known}
 
 abbrev read-values-Inv-loop : read-values-lts.InvT-loop
-read-values-Inv-loop left count limits bytes names pool rows₀ spans₀ now₀ k₀ rows spans now k = Sofar limits bytes rows₀ rows spans₀ spans (readValue (context limits bytes names pool) left) now₀ now count k
+read-values-Inv-loop left count limits bytes names pool rows₀ spans₀ now₀ k₀ rows spans now k =
+    Sofar limits bytes rows₀ rows spans₀ spans (readValue (context limits bytes names pool) left) now₀ now count k
 
 abbrev read-values-μ-loop : read-values-lts.MeasureT-loop
 read-values-μ-loop left count limits bytes names pool rows₀ spans₀ now₀ k₀ rows spans now k = count - k
 
-read-values-loop-holds : (t : ℕ) → read-values-lts.Need-loop-holds (read-values-known t) (read-values-at t) read-values.Post read-values-Inv-loop read-values-μ-loop
-read-values-loop-holds t c = sofar-start (c .before .before .before .before .before .pre .1 .0)
+read-values-loop-holds :
+    (t : ℕ) → read-values-lts.Need-loop-holds (read-values-known t) (read-values-at t) read-values.Post read-values-Inv-loop read-values-μ-loop
+read-values-loop-holds t c =
+    let pre = c .before .before .before .before .before .pre in
+    sofar-start (pre .1 .0)
 
-read-values-read-value-requires : (t : ℕ) → read-values-lts.Need-read-value-requires (read-values-known t) (read-values-at t) read-values.Post read-values-Inv-loop read-values-μ-loop
-read-values-read-value-requires t c κs = (omega (arith, c .before .before .before .before .before .before .before .before .before .pre .0), (c .before .before .before .loop .inv .fit, c .before .before .before .before .before .before .before .before .before .pre .1 .1))
+read-values-read-value-requires :
+    (t : ℕ) → read-values-lts.Need-read-value-requires (read-values-known t) (read-values-at t) read-values.Post read-values-Inv-loop read-values-μ-loop
+read-values-read-value-requires t c κs =
+    let pre = c .before .before .before .before .before .before .before .before .before .pre in
+    (omega (arith, pre .0), (c .before .before .before .loop .inv .fit, pre .1 .1))
 
 read-values-returns :
     (t : ℕ) →
@@ -27,12 +34,24 @@ read-values-returns :
     read-values.Post
     read-values-Inv-loop
     read-values-μ-loop
-read-values-returns t c = sofar-stop (c .before .before .before .before .before .before .before .before .before .before .before .loop .inv) (c .before .before .before .before .before .before .before .before .before .before .loop-test .taken) (c .before .n .given .1) (c .before .before .before .before .before .before .before .read-value .ensures)
+read-values-returns t c =
+    let at-read-value = c .before .before .before .before .before .before .before in
+    let loop-test = at-read-value .before .before .before .loop-test in
+    let loop = at-read-value .before .before .before .before .loop in
+    sofar-stop (loop .inv) (loop-test .taken) (c .before .n .given .1) (at-read-value .read-value .ensures)
 
-read-values-loop-again : (t : ℕ) → read-values-lts.Need-loop-again (read-values-known t) (read-values-at t) read-values.Post read-values-Inv-loop read-values-μ-loop
-read-values-loop-again t c = sofar-next (c .before .before .before .before .before .before .before .before .before .before .before .loop .inv) (c .before .before .before .before .before .before .before .before .before .before .loop-test .taken) (c .before .next .given .1) (c .before .before .before .before .before .before .before .read-value .ensures) (c .before .before .before .before .before .before .before .read-value .kept .1 .1 .1 .1 .1 .0) (c .before .before .before .before .before .before .before .read-value .kept .1 .1 .1 .1 .1 .1 .0)
+read-values-loop-again :
+    (t : ℕ) → read-values-lts.Need-loop-again (read-values-known t) (read-values-at t) read-values.Post read-values-Inv-loop read-values-μ-loop
+read-values-loop-again t c =
+    let at-read-value = c .before .before .before .before .before .before .before in
+    let read-value = at-read-value .read-value in
+    let loop-test = at-read-value .before .before .before .loop-test in
+    let loop = at-read-value .before .before .before .before .loop in
+    sofar-next (loop .inv) (loop-test .taken) (c .before .next .given .1) (read-value .ensures) (read-value .kept .1 .1 .1 .1 .1 .0)
+    (read-value .kept .1 .1 .1 .1 .1 .1 .0)
 
-read-values-returns-2 : (t : ℕ) → read-values-lts.Need-returns-2 (read-values-known t) (read-values-at t) read-values.Post read-values-Inv-loop read-values-μ-loop
+read-values-returns-2 :
+    (t : ℕ) → read-values-lts.Need-returns-2 (read-values-known t) (read-values-at t) read-values.Post read-values-Inv-loop read-values-μ-loop
 read-values-returns-2 t c = sofar-end (c .before .loop .inv) (c .loop-test .left)
 
 pub read-values-meets : {M : Type 1} (t : ℕ) → read-values-lts.Closed (read-values-known t) (read-values-at t) read-values.Post M
