@@ -17,7 +17,7 @@ use Rattle.read_items.specs.Laws.Context.{length-partsOf, partsWords-partsOf}
 use Rattle.read_items.specs.Reads.{stateAt, stopped}
 use Rattle.read_lines.specs.LinesRead.{Accepted, InContext}
 use Rattle.read_values.specs.Did.{Fit, Ran, capacities, context, oneTree}
-use Rattle.read_values.specs.declared.Limits.{Limits}
+use Rattle.payload.specs.declared.Capacities.{Capacities}
 use Rattle.read_values.specs.declared.State.{State}
 use Rattle.deserialize.specs.Filled.{Filled, readScript}
 use Rattle.deserialize.proofs.Begins.{begins-nil, begins-put}
@@ -53,12 +53,12 @@ filled-no {rows} {spans} {starts} {pool} e = rw e (record {
 
 ---- the outer chunk, then the line index
 
-module _ (names : List ℕ) {limits : Limits} {p pool rows rows′ spans spans′ : List ℕ} (at : ℕ) {s : State} {outer : Node Part}
+module _ (names : List ℕ) {limits : Capacities} {p pool rows rows′ spans spans′ : List ℕ} (at : ℕ) {s : State} {outer : Node Part}
     (ran : Ran oneTree limits p rows rows′ spans spans′ 0 0 s outer (readChunk (context limits p names pool) (stateAt p at 0 0))) where
   pub filled-no-lines : {starts′ : List ℕ} {n q : ℕ} → InContext p pool (limits .starts) (s .at) readLineIndex (stopped n q)
       → Filled (readScript (context limits p names pool) (stateAt p at 0 0)) rows′ spans′ starts′ pool (read.Refused n q)
   filled-no-lines g =
-      filled-no (script-no-lines (context limits p names pool) (stateAt p at 0 0) (ran .is) (g .reads (capacities limits) names refl .is (s .rows) (s .spans)))
+      filled-no (script-no-lines (context limits p names pool) (stateAt p at 0 0) (ran .is) (g .reads limits names refl .is (s .rows) (s .spans)))
 
   module _ (fit : Fit limits p rows spans (record { at = at; rows = 0; spans = 0 }))
       (whole : length pool ≡ 2 * (length pool / 2)) (inside : PoolFits p pool) where
@@ -71,7 +71,7 @@ module _ (names : List ℕ) {limits : Limits} {p pool rows rows′ spans spans�
     unfolding contextOf readAnswer usedRows usedSpans usedStarts usedPool
     filled-script {starts} room g =
         let words = partsWords-partsOf p pool (length pool / 2) whole inside in
-        rw (script-ok (context limits p names pool) (stateAt p at 0 0) (ran .is) (g .is .reads (capacities limits) names refl .is (s .rows) (s .spans)))
+        rw (script-ok (context limits p names pool) (stateAt p at 0 0) (ran .is) (g .is .reads limits names refl .is (s .rows) (s .spans)))
         (record {
           answer = cc (length-partsOf p pool);
           rows-begin = rw (ran .wrote) (begins-put rows _ _ (omega (arith, ran .size)) (omega (arith, ran .used, fit .room)));

@@ -8,7 +8,8 @@ use lib.Seq.{length-take-le}
 use borrow.Author.Tests.{le-ltb, lt-ltb}
 use Rattle.payload.specs.Choice.{if_then_else_}
 use Rattle.payload.specs.Reader.{Result, andThen, refused, start, _>>=_}
-use Rattle.payload.specs.Reading.{Capacities, Payload, readPayload, readPool}
+use Rattle.payload.specs.Reading.{Payload, readPayload, readPool}
+use Rattle.payload.specs.declared.Capacities.{Capacities}
 use Rattle.payload.specs.Rows.{rowWidth}
 use Rattle.payload.specs.Tables.{Leaves, capacitiesOf, partsWords, reading, sizeLimit}
 use Rattle.payload.specs.declared.Read.{Read}
@@ -18,34 +19,33 @@ use Rattle.read_items.specs.Context.{PoolFits, contextOf}
 use Rattle.read_items.specs.Reads.{stateAt}
 use Rattle.read_pool.specs.PoolRead.{Accepted}
 use Rattle.read_values.specs.Did.{Fit, capacities}
-use Rattle.read_values.specs.declared.Limits.{Limits}
 use Rattle.deserialize.specs.Filled.{Filled, countsOf, readScript}
 use Rattle.deserialize.proofs.Begins.{begins-front, begins-cleared}
 
 ---- capacities
 
-module _ {limits : Limits} (rows spans starts pool : ℕ) (e : capacities limits ≡ capacitiesOf rows spans starts pool) where
+module _ {limits : Capacities} (rows spans starts pool : ℕ) (e : limits ≡ capacitiesOf rows spans starts pool) where
   pub strings-fit : 2 * limits .strings ≤ pool
   unfolding capacitiesOf
-  strings-fit = omega (arith, ap (λ (c : Capacities). c .maxStrings) e)
+  strings-fit = omega (arith, ap (λ (c : Capacities). c .strings) e)
 
   pub strings-few : limits .strings ≤ 1048576
   unfolding capacitiesOf
-  strings-few = omega (arith, ap (λ (c : Capacities). c .maxStrings) e)
+  strings-few = omega (arith, ap (λ (c : Capacities). c .strings) e)
 
   pub starts-fit : limits .starts ≤ starts
   unfolding capacitiesOf
-  starts-fit = omega (arith, ap (λ (c : Capacities). c .maxStarts) e)
+  starts-fit = omega (arith, ap (λ (c : Capacities). c .starts) e)
 
 -- the outer chunk is read into tables of which nothing is used
 pub tables-fit :
-    {limits : Limits} {p : List ℕ} {at : ℕ} (rows spans : List ℕ) (starts pool : ℕ) →
-    capacities limits ≡ capacitiesOf (length rows) (length spans) starts pool → at ≤ length p →
+    {limits : Capacities} {p : List ℕ} {at : ℕ} (rows spans : List ℕ) (starts pool : ℕ) →
+    limits ≡ capacitiesOf (length rows) (length spans) starts pool → at ≤ length p →
     Fit limits p rows spans (record { at = at; rows = 0; spans = 0 })
 unfolding capacitiesOf
 tables-fit rows spans starts pool e h =
-    let r = ap (λ (c : Capacities). c .maxRows) e in
-    let s = ap (λ (c : Capacities). c .maxSpans) e in
+    let r = ap (λ (c : Capacities). c .rows) e in
+    let s = ap (λ (c : Capacities). c .spans) e in
     record { place = h; used = omega arith; covered = omega arith; room = omega arith; cover = omega arith; few = omega arith; few-spans = omega arith }
 
 ---- the pool table after the pool was read: its strings are lent to what is read next
@@ -68,17 +68,17 @@ unfolding reading if_then_else_
 too-large c names p h = rw (lt-ltb sizeLimit (length p) h)
 
 module _ (c : Capacities) (names p : List ℕ) (h : length p ≤ sizeLimit) where
-  pub no-pool-read : {n q : ℕ} → readPool (c .maxStrings) (start p) ≡ refused n q → reading c names p ≡ refused n q
+  pub no-pool-read : {n q : ℕ} → readPool (c .strings) (start p) ≡ refused n q → reading c names p ≡ refused n q
   unfolding reading if_then_else_ readPayload _>>=_ andThen
   no-pool-read e = rw (le-ltb sizeLimit (length p) h, e)
 
-  script-after-pool : {pool pool′ : List ℕ} {n next : ℕ} → Accepted p pool pool′ (c .maxStrings) n next
+  script-after-pool : {pool pool′ : List ℕ} {n next : ℕ} → Accepted p pool pool′ (c .strings) n next
       → reading c names p ≡ readScript (contextOf c p names (take (2 * n) pool′)) (stateAt p next 0 0)
   unfolding reading if_then_else_ readPayload readScript contextOf _>>=_ andThen
   script-after-pool a = rw (le-ltb sizeLimit (length p) h, a .is, a .strings)
 
   -- the pool table was lent up to its used words
-  pub filled-payload : {pool pool′ rows spans starts : List ℕ} {n next : ℕ} {r : Read} (m : ℕ) → m ≡ 2 * n → Accepted p pool pool′ (c .maxStrings) n next
+  pub filled-payload : {pool pool′ rows spans starts : List ℕ} {n next : ℕ} {r : Read} (m : ℕ) → m ≡ 2 * n → Accepted p pool pool′ (c .strings) n next
       → Filled (readScript (contextOf c p names (take m pool′)) (stateAt p next 0 0)) rows spans starts (take m pool′) r
       → Filled (reading c names p) rows spans starts pool′ r
   filled-payload {n = n} m e a f =

@@ -7,25 +7,13 @@ ghost use Rattle.read_items.specs.Context.{PoolFits};
 ghost use Rattle.read_items.specs.Reads.{stateAt};
 ghost use Rattle.read_values.specs.Did.{Fit, capacities, context};
 ghost use Rattle.deserialize.specs.Filled.{Filled, countsOf, readScript};
+use payload::Capacities;
 use payload::Counts;
 use payload::Program;
 use payload::Read;
 use read_lines::LinesAt;
 use read_pool::PoolAt;
-use read_values::Limits;
 use read_values::Step;
-
-// How many entries tables of so many words hold.
-fn limits_of(rows: usize, spans: usize, starts: usize, pool: usize) -> Limits
-    ensures { λ r. ⌜ capacities r ≡ capacitiesOf rows spans starts pool ⌝ }
-{
-    Limits {
-        rows: payload::row_capacity(rows),
-        spans: payload::span_capacity(spans),
-        strings: payload::string_capacity(pool),
-        starts: payload::start_capacity(starts),
-    }
-}
 
 // What stands after the pool, at `at`: the outer chunk and the line index. The pool table has no words past its strings.
 fn read_script(
@@ -35,7 +23,7 @@ fn read_script(
     rows: &mut [u64],
     spans: &mut [u64],
     starts: &mut [u32],
-    limits: Limits,
+    limits: Capacities,
     at: usize,
 ) -> Read
     requires { ⌜ Fit limits (now bytes) (now rows) (now spans) (record { at = at; rows = 0; spans = 0 }) ⌝ }
@@ -81,7 +69,7 @@ fn fill_tables(
     if Program::SIZE < bytes.len() {
         return Read::Refused(16, 0);
     }
-    let limits = limits_of(rows.len(), spans.len(), starts.len(), pool.len());
+    let limits = Capacities::of(rows.len(), spans.len(), starts.len(), pool.len());
     match read_pool::read_pool(bytes, pool, limits.strings) {
         PoolAt::Pool(count, next) => {
             let first: usize = 0;

@@ -6,7 +6,7 @@ use lib.Dec.{ltb}
 use lib.ListN.{length}
 use Rattle.slices.specs.LittleEndian.{toLeBytes}
 use Rattle.answer.specs.PutIfRoom.{putIfRoom}
-use Rattle.payload.specs.Reading.{Capacities}
+use Rattle.payload.specs.declared.Capacities.{Capacities}
 use Rattle.varint.specs.declared.Varint.{Varint}
 use Rattle.varint.specs.declared.Varint.the-variants.{Number, Refused}
 use Rattle.varint.specs.Varint.{nextOf}
@@ -26,4 +26,4 @@ numberAfter (Refused refusal place) number = number
 
 -- the tables of the house check
 abbrev pub checkCapacities : Capacities
-checkCapacities = record { maxRows = 512; maxSpans = 1024; maxStrings = 256; maxStarts = 512 }
+checkCapacities = record { rows = 512; spans = 1024; strings = 256; starts = 512 }

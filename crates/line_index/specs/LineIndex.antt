@@ -10,8 +10,8 @@ use Rattle.line_index.specs.declared.LineIndex.the-variants.{Starts, Ref
 abbrev pub maxText : ℕ
 maxText = 16777216
 
-abbrev pub maxStarts : ℕ
-maxStarts = 1048576
+abbrev pub starts : ℕ
+starts = 1048576
 
 -- the place after each 0A of a text whose first byte stands at i
 unfoldable pub afterNewlines : ℕ → List ℕ → List ℕ
@@ -24,7 +24,7 @@ lineStarts text = 0 ∷ afterNewlines 0 text
 
 -- how many starts a table of so many words takes
 abbrev pub capacity : ℕ → ℕ
-capacity words = min words maxStarts
+capacity words = min words starts
 
 -- The answer for a text and a table of so many words: 16 where the text is too long; the count of the starts where the table takes them all;
 -- else 24, at the 0A before the first start that it does not take, or at 0 where it takes none.

@@ -8,7 +8,7 @@ use Rattle.payload.specs.Choice.{_and_}
 use Rattle.payload.specs.House.{allNamed}
 use Rattle.payload.specs.Names.{isListed}
 use Rattle.payload.specs.Reader.{Part, State, ok}
-use Rattle.payload.specs.Reading.{Capacities}
+use Rattle.payload.specs.declared.Capacities.{Capacities}
 use Rattle.payload.specs.Sound.{Tables, scriptOf}
 use Rattle.payload.specs.Tables.{limits, sizeLimit}
 use Rattle.payload.specs.Trees.{Item, Script, Trees, code, forgetScript, nativeName, nil, node, number, recordName, single, size, spanCount, startCount, string}
@@ -35,10 +35,10 @@ Listed f s = allItems (itemListed f) (single (s .outer)) ≡ true
 
 -- tables with these capacities hold a program: its rows, spans, distinct gathered strings and starts fit
 pub record Fits (c : Capacities) (s : Script (List ℕ)) : Type 0 where
-  pub fit-rows : size (single (s .outer)) ≤ c .maxRows
-  pub fit-spans : spanCount (single (s .outer)) ≤ c .maxSpans
-  pub fit-strings : length (poolOf s) ≤ c .maxStrings
-  pub fit-starts : startCount (s .line) ≤ c .maxStarts
+  pub fit-rows : size (single (s .outer)) ≤ c .rows
+  pub fit-spans : spanCount (single (s .outer)) ≤ c .spans
+  pub fit-strings : length (poolOf s) ≤ c .strings
+  pub fit-starts : startCount (s .line) ≤ c .starts
 
 -- T is a sound program that the tables hold, with its native names listed, and p, all of it, is its writing
 pub record HouseProgram (c : Capacities) (names p : List ℕ) (T : Tables) : Type 0 where
@@ -57,9 +57,9 @@ pub record Writes (T : Tables) (p : List ℕ) : Type 0 where
   pub script : Script Part
   pub end : State
   pub sound : scriptOf T ≡ ok script end
-  pub few-rows : size (single (forgetScript script .outer)) ≤ limits .maxRows
-  pub few-spans : spanCount (single (forgetScript script .outer)) ≤ limits .maxSpans
-  pub few-starts : startCount (forgetScript script .line) ≤ limits .maxStarts
+  pub few-rows : size (single (forgetScript script .outer)) ≤ limits .rows
+  pub few-spans : spanCount (single (forgetScript script .outer)) ≤ limits .spans
+  pub few-starts : startCount (forgetScript script .line) ≤ limits .starts
   pub named : allNamed (forgetScript script) ≡ true
   pub its-writing : writing (forgetScript script) ≡ p
   pub short : length p ≤ sizeLimit

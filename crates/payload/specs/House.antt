@@ -6,7 +6,8 @@ use lib.Dec.{eqb}
 use Rattle.slices.specs.Same.{same}
 use Rattle.payload.specs.Choice.{_and_, if_then_else_}
 use Rattle.payload.specs.Reader.{Result, State, ok, refused}
-use Rattle.payload.specs.Reading.{Capacities, Payload}
+use Rattle.payload.specs.Reading.{Payload}
+use Rattle.payload.specs.declared.Capacities.{Capacities}
 use Rattle.payload.specs.Sound.{isNil, scriptOf}
 use Rattle.payload.specs.Tables.{reading, tablesOf}
 use Rattle.payload.specs.Trees.{Script, forgetScript, single, size}

@@ -14,13 +14,7 @@ use Rattle.payload.specs.Reader.{Part, Reader, _>>=_, _>>_, body, byte, 
 use Rattle.payload.specs.Shapes.{ItemKind, Kids, Shape, depthLimit, isKeyTag, keys, noValue, oneValue, pairs, shape, values, withChunk, withFields, withKids, withTemplate}
 use Rattle.payload.specs.Spans.{readCode, readPosition}
 use Rattle.payload.specs.Trees.{Item, LineIndex, Node, Script, Trees, code, cons, forgetItems, keyOf, nativeName, nil, nodeOf, number, recordName, string}
-
--- how many rows, spans, strings and starts there is room for
-pub record Capacities : Type 0 where
-  pub maxRows : ℕ
-  pub maxSpans : ℕ
-  pub maxStrings : ℕ
-  pub maxStarts : ℕ
+use Rattle.payload.specs.declared.Capacities.{Capacities}
 
 ---- the pool: 21 before a string is begun, 3 at its body
 
@@ -52,7 +46,7 @@ readItem e (ItemKind.number k) = readNumber k >>= λ w. pure (number k w)
 readItem e ItemKind.string = readPoolIndex e >>= λ b. pure (string b)
 readItem e ItemKind.nativeName = here >>= λ p. readPoolIndex e >>= λ b. must (e .listed (b .bytes)) 14 p >> pure (nativeName b)
 readItem e ItemKind.recordName = readPoolIndex e >>= λ b. pure (recordName b)
-readItem e ItemKind.code = readCode (e .capacities .maxSpans) >>= λ c. pure (code (c .part) (c .spans))
+readItem e ItemKind.code = readCode (e .capacities .spans) >>= λ c. pure (code (c .part) (c .spans))
 
 unfoldable pub readItems : Context → List ItemKind → Reader (List (Item Part))
 readItems e [] = pure []
@@ -93,7 +87,7 @@ readKids r pairs = varint >>= λ n. readPairs n [] r
 
 -- a chunk or field row: no tag byte, no depth of its own; 22 before it
 unfoldable pub readUntagged : Context → Reader (Node Part) → ℕ → List ItemKind → Kids → Reader (Node Part)
-readUntagged e r t kinds kids = newRow (e .capacities .maxRows) >> readItems e kinds >>= λ is. readKids r kids >>= λ ts. pure (nodeOf t is ts)
+readUntagged e r t kinds kids = newRow (e .capacities .rows) >> readItems e kinds >>= λ is. readKids r kids >>= λ ts. pure (nodeOf t is ts)
 
 -- a value's bytes after its tag; a closure's template comes first, and 11 is tested after it
 unfoldable pub readShape : Context → Reader (Node Part) → ℕ → Shape → Reader (Node Part)
@@ -106,7 +100,7 @@ readShape e r t (withTemplate kinds) =
 -- A value with d levels left; refusals 5, 15, 22, in this order.
 unfoldable pub readValue : Context → ℕ → Reader (Node Part)
 readValue e zero = here >>= λ p. byte >>= λ t. must (leb t 26) 5 p >> must false 15 p >> pure (nodeOf t [] nil)
-readValue e (suc d) = here >>= λ p. byte >>= λ t. must (leb t 26) 5 p >> newRow (e .capacities .maxRows) >> readShape e (readValue e d) t (shape t)
+readValue e (suc d) = here >>= λ p. byte >>= λ t. must (leb t 26) 5 p >> newRow (e .capacities .rows) >> readShape e (readValue e d) t (shape t)
 
 -- the outer chunk
 unfoldable pub readChunk : Context → Reader (Node Part)
@@ -121,7 +115,7 @@ readStarts most (suc n) k sum = here >>= λ p. must (ltb k most) 24 p >> readPos
 
 unfoldable pub readFlagged : Context → ℕ → Reader (Option (LineIndex Part))
 readFlagged e zero = pure none
-readFlagged e (suc f) = readPoolIndex e >>= λ x. varint >>= λ n. readStarts (e .capacities .maxStarts) n 0 (pos 0) >>= λ ss. pure (some (record { name = x; starts = ss }))
+readFlagged e (suc f) = readPoolIndex e >>= λ x. varint >>= λ n. readStarts (e .capacities .starts) n 0 (pos 0) >>= λ ss. pure (some (record { name = x; starts = ss }))
 
 unfoldable pub readLineIndex : Context → Reader (Option (LineIndex Part))
 readLineIndex e = here >>= λ p. byte >>= λ f. must (leb f 1) 13 p >> readFlagged e f
@@ -135,7 +129,7 @@ pub record Payload : Type 0 where
 
 unfoldable pub readPayload : Capacities → (List ℕ → Bool) → Reader Payload
 readPayload c listed =
-    readPool (c .maxStrings) >>= λ pool.
+    readPool (c .strings) >>= λ pool.
     readChunk (record { capacities = c; pool = pool; listed = listed }) >>= λ outer.
     readLineIndex (record { capacities = c; pool = pool; listed = listed }) >>= λ line.
     pure (record { pool = pool; script = record { outer = outer; line = line } })

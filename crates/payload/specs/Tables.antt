@@ -9,7 +9,8 @@ use Rattle.slices.specs.Zeros.{padTo}
 use Rattle.payload.specs.Choice.{if_then_else_}
 use Rattle.payload.specs.Names.{isListed}
 use Rattle.payload.specs.Reader.{Part, Result, ok, refused, start}
-use Rattle.payload.specs.Reading.{Capacities, Payload, readPayload}
+use Rattle.payload.specs.Reading.{Payload, readPayload}
+use Rattle.payload.specs.declared.Capacities.{Capacities}
 use Rattle.payload.specs.Rows.{partWords, rowTable, rowWidth, spanTable}
 use Rattle.payload.specs.Sound.{Tables}
 use Rattle.payload.specs.Spans.{Span}
@@ -59,15 +60,15 @@ sizeLimit = 16777216
 
 -- the most rows, spans, strings and starts that any tables hold
 abbrev pub limits : Capacities
-limits = record { maxRows = 1048576; maxSpans = 16777216; maxStrings = 1048576; maxStarts = 1048576 }
+limits = record { rows = 1048576; spans = 16777216; strings = 1048576; starts = 1048576 }
 
 -- the capacities of tables of so many words: the whole entries lent, or the limits if fewer
 unfoldable pub capacitiesOf : ℕ → ℕ → ℕ → ℕ → Capacities
 capacitiesOf rows spans starts pool = record {
-  maxRows = min (rows / rowWidth) 1048576;
-  maxSpans = min (spans / 2) 16777216;
-  maxStrings = min (pool / 2) 1048576;
-  maxStarts = min starts 1048576;
+  rows = min (rows / rowWidth) (limits .rows);
+  spans = min (spans / 2) (limits .spans);
+  strings = min (pool / 2) (limits .strings);
+  starts = min starts (limits .starts);
 }
 
 ---- a read's answer, and the used words of each table: none after a refusal

@@ -10,7 +10,7 @@ use Rattle.slices.specs.Zeros.{padTo}
 use Rattle.payload.specs.Choice.{_and_, _or_, if_then_else_}
 use Rattle.payload.specs.Pool.{isIn}
 use Rattle.payload.specs.Reader.{Part, Result, ok, refused}
-use Rattle.payload.specs.Reading.{Capacities}
+use Rattle.payload.specs.declared.Capacities.{Capacities}
 use Rattle.payload.specs.Rows.{rowWidth}
 use Rattle.payload.specs.Sound.{Tables, scriptOf}
 use Rattle.payload.specs.Tables.{partsWords, sizeLimit}
@@ -34,7 +34,7 @@ heldTables store g rows spans starts = record {
 
 -- each count within its table and its limit
 unfoldable pub countsFit : Capacities → Program → Bool
-countsFit c g = leb (g .rows) (c .maxRows) and leb (g .spans) (c .maxSpans) and leb (g .starts) (c .maxStarts)
+countsFit c g = leb (g .rows) (c .rows) and leb (g .spans) (c .spans) and leb (g .starts) (c .starts)
 
 ---- record names
 
@@ -92,7 +92,7 @@ afterSound strings room (refused n p) = notWritten n p
 unfoldable pub writeTables : Capacities → ℕ → Program → Tables → Writing
 writeTables c room g T =
     if ltb sizeLimit (length (T .store)) then notWritten 16 0
-    else if countsFit c g then afterSound (c .maxStrings) room (scriptOf T)
+    else if countsFit c g then afterSound (c .strings) room (scriptOf T)
     else notWritten 17 (g .rows)
 
 unfoldable pub writeAnswer : Writing → Written

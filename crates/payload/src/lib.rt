@@ -5,6 +5,14 @@ ghost use Rattle.payload.specs.Rows.{rowWidth};
 ghost use Rattle.payload.specs.Shapes.{depthLimit};
 ghost use Rattle.payload.specs.Tables.{capacitiesOf, limits, sizeLimit};
 
+// How many rows, spans, strings and starts there is room for.
+pub struct Capacities {
+    pub rows: usize,
+    pub spans: usize,
+    pub strings: usize,
+    pub starts: usize,
+}
+
 // What a read or a check that is accepted answers: bytes consumed, used rows, spans, starts and strings, the line flag and the name's offset and length.
 pub struct Counts {
     pub consumed: usize,
@@ -61,7 +69,7 @@ impl Program {
     // The empty program. The contract also says that the constants above are the definitions' limits.
     pub fn empty() -> Self
         ensures { λ r. ⌜ r ≡ record { rows = 0; spans = 0; starts = 0; flag = 0; «name_o» = 0; «name_n» = 0 } ⌝ }
-        ensures { λ _. do ⌜ limits ≡ record { maxRows = (← ⟦Program::ROWS⟧ .entry); maxSpans = (← ⟦Program::SPANS⟧ .entry); maxStrings = (← ⟦Program::STRINGS⟧ .entry); maxStarts = (← ⟦Program::STARTS⟧ .entry) } ⌝ }
+        ensures { λ _. do ⌜ limits ≡ record { rows = (← ⟦Program::ROWS⟧ .entry); spans = (← ⟦Program::SPANS⟧ .entry); strings = (← ⟦Program::STRINGS⟧ .entry); starts = (← ⟦Program::STARTS⟧ .entry) } ⌝ }
         ensures { λ _. do ⌜ (sizeLimit ≡ (← ⟦Program::SIZE⟧ .entry)) × (rowWidth ≡ (← ⟦Program::ROW_WIDTH⟧ .entry)) × (depthLimit ≡ (← ⟦Program::DEPTH⟧ .entry)) ⌝ }
     {
         Program {
@@ -83,25 +91,39 @@ fn smaller(a: usize, b: usize) -> usize
 
 // The capacity of a lent table of so many words: the whole entries, or the limit if fewer.
 pub fn row_capacity(words: usize) -> usize
-    ensures { λ r. ⌜ r ≡ capacitiesOf words 0 0 0 .maxRows ⌝ }
+    ensures { λ r. ⌜ r ≡ capacitiesOf words 0 0 0 .rows ⌝ }
 {
     smaller(words / Program::ROW_WIDTH, Program::ROWS)
 }
 
 pub fn span_capacity(words: usize) -> usize
-    ensures { λ r. ⌜ r ≡ capacitiesOf 0 words 0 0 .maxSpans ⌝ }
+    ensures { λ r. ⌜ r ≡ capacitiesOf 0 words 0 0 .spans ⌝ }
 {
     smaller(words / 2, Program::SPANS)
 }
 
 pub fn start_capacity(words: usize) -> usize
-    ensures { λ r. ⌜ r ≡ capacitiesOf 0 0 words 0 .maxStarts ⌝ }
+    ensures { λ r. ⌜ r ≡ capacitiesOf 0 0 words 0 .starts ⌝ }
 {
     smaller(words, Program::STARTS)
 }
 
 pub fn string_capacity(words: usize) -> usize
-    ensures { λ r. ⌜ r ≡ capacitiesOf 0 0 0 words .maxStrings ⌝ }
+    ensures { λ r. ⌜ r ≡ capacitiesOf 0 0 0 words .strings ⌝ }
 {
     smaller(words / 2, Program::STRINGS)
+}
+
+impl Capacities {
+    // The capacities of lent tables of so many words each.
+    pub fn of(rows: usize, spans: usize, starts: usize, pool: usize) -> Self
+        ensures { λ r. ⌜ r ≡ capacitiesOf rows spans starts pool ⌝ }
+    {
+        Capacities {
+            rows: row_capacity(rows),
+            spans: span_capacity(spans),
+            strings: string_capacity(pool),
+            starts: start_capacity(starts),
+        }
+    }
 }

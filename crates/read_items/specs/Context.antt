@@ -4,7 +4,8 @@ use Prim.Native.Nat.{ℕ, _+_, _*_, _≤_, _<_}
 use lib.ListN.{drop, getD, length, take}
 use Rattle.payload.specs.Names.{isListed}
 use Rattle.payload.specs.Reader.{Part}
-use Rattle.payload.specs.Reading.{Capacities, Context, readPoolIndex}
+use Rattle.payload.specs.Reading.{Context, readPoolIndex}
+use Rattle.payload.specs.declared.Capacities.{Capacities}
 use Rattle.read_items.specs.Reads.{Answer, read, stopped, Reads}
 use Rattle.read_items.specs.declared.PartAt.{PartAt}
 use Rattle.read_items.specs.declared.PartAt.the-variants as part-at

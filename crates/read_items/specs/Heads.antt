@@ -5,7 +5,8 @@ use Prim.Native.Nat.{ℕ, suc, _*_}
 use lib.ListN.{getD, replicate}
 use Rattle.payload.specs.Numbers.{varint}
 use Rattle.payload.specs.Reader.{Part, Reader, _>>=_, pure}
-use Rattle.payload.specs.Reading.{Capacities, Context, readItems}
+use Rattle.payload.specs.Reading.{Context, readItems}
+use Rattle.payload.specs.declared.Capacities.{Capacities}
 use Rattle.payload.specs.Rows.{itemsWords, itemsSpans, countWords, kindsWidth, unusedWords}
 use Rattle.payload.specs.Shapes.{Kids, Shape, noValue, oneValue, values, keys, pairs, withKids, withChunk, withFields, withTemplate, kindsOf}
 use Rattle.payload.specs.Trees.{Item}

@@ -6,7 +6,8 @@ use Prim.Native.Nat.{ℕ, _≤_}
 use lib.ListN.{length}
 use Rattle.slices.specs.Put.{put}
 use Rattle.payload.specs.Reader.{Part, Reader}
-use Rattle.payload.specs.Reading.{Capacities, Context}
+use Rattle.payload.specs.Reading.{Context}
+use Rattle.payload.specs.declared.Capacities.{Capacities}
 use Rattle.payload.specs.Tables.{lineFlag, lineName, lineStarts}
 use Rattle.payload.specs.Trees.{LineIndex}
 use Rattle.read_items.specs.Reads.{Answer, read, stopped, Reads}
@@ -16,7 +17,7 @@ use Rattle.read_lines.specs.declared.LinesAt.the-variants.{Lines, Refuse
 
 -- the answer is what the reader gives at a place of p, whatever names are listed and whatever room there is for all but starts
 pub record InContext {A : Type 0} (p pool : List ℕ) (most at : ℕ) (reader : Context → Reader A) (answer : Answer A) : Type 0 where
-  pub reads : (c : Capacities) (names : List ℕ) → c .maxStarts ≡ most → Reads p at (reader (contextOf c p names pool)) answer
+  pub reads : (c : Capacities) (names : List ℕ) → c .starts ≡ most → Reads p at (reader (contextOf c p names pool)) answer
 
 -- a line index, or none, which ends at `next`: its starts stand in the table from its begin
 pub record Accepted (p pool table table′ : List ℕ) (most at : ℕ) (reader : Context → Reader (Option (LineIndex Part))) (flag o n k next : ℕ) : Type 0 where

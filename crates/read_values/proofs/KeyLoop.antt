@@ -22,7 +22,7 @@ use Rattle.read_values.specs.Told.{Told}
 use Rattle.read_values.specs.Did.{manyTrees, oneTree, Fit, Ran, Did, context, stateOf}
 use Rattle.read_values.specs.Keys.{keyRefusal, seenIn, tagOf}
 use Rattle.read_values.specs.Laws.Did.{ran-of, no-of, ran-more, two-runs}
-use Rattle.read_values.specs.declared.Limits.{Limits}
+use Rattle.payload.specs.declared.Capacities.{Capacities}
 use Rattle.read_values.specs.declared.State.{State}
 use Rattle.read_values.specs.declared.Step.{Step}
 use Rattle.read_values.specs.declared.Step.the-variants.{Done, Refused}
@@ -64,7 +64,7 @@ module _ (q : ℕ) (seen : List (List ℕ)) (t : Node Part) (z : reader.State) {
 
 ---- After k elements or entries: the keys before stand in the rows, and whatever the rest does from here, all of it does from the start.
 
-pub record KeySofar (limits : Limits) (p rows₀ rows spans₀ spans : List ℕ) (gap : ℕ) (reads : ℕ → List (List ℕ) → Reader (Trees Part)) (st now : State) (count k : ℕ) : Type 0 where
+pub record KeySofar (limits : Capacities) (p rows₀ rows spans₀ spans : List ℕ) (gap : ℕ) (reads : ℕ → List (List ℕ) → Reader (Trees Part)) (st now : State) (count k : ℕ) : Type 0 where
   pub fit : Fit limits p rows spans now
   pub upto : k ≤ count
   pub same-rows : length rows ≡ length rows₀
@@ -97,7 +97,7 @@ seen-more :
 unfolding isIn
 seen-more x seen es e h = rw h (key-more x es e)
 
-module _ {limits : Limits} {p rows₀ spans₀ : List ℕ} {gap : ℕ} {reads : ℕ → List (List ℕ) → Reader (Trees Part)} {st : State} {count : ℕ} where
+module _ {limits : Capacities} {p rows₀ spans₀ : List ℕ} {gap : ℕ} {reads : ℕ → List (List ℕ) → Reader (Trees Part)} {st : State} {count : ℕ} where
   pub keys-start : Fit limits p rows₀ spans₀ st → KeySofar limits p rows₀ rows₀ spans₀ spans₀ gap reads st st count 0
   unfolding AllGood keysOf entriesTable
   keys-start f = record {
@@ -200,10 +200,10 @@ no-trees : (xs : List ℕ) → xs ++ rowTable nil ≡ xs
 unfolding rowTable
 no-trees xs = append-nil xs
 
-unfoldable pub elements : Limits → List ℕ → List ℕ → List ℕ → ℕ → ℕ → List (List ℕ) → Reader (Trees Part)
+unfoldable pub elements : Capacities → List ℕ → List ℕ → List ℕ → ℕ → ℕ → List (List ℕ) → Reader (Trees Part)
 elements limits p names pool d n seen = readKeys n seen (readValue (context limits p names pool) d)
 
-module _ (limits : Limits) (p names pool : List ℕ) (d : ℕ) where
+module _ (limits : Capacities) (p names pool : List ℕ) (d : ℕ) where
   step-key :
       {rows rows′ spans spans′ : List ℕ} (now next : State) (seen : List (List ℕ)) (n : ℕ) (t : Node Part) (c c′ : List ℕ) (r : Step) →
       Ran oneTree limits p rows rows′ spans spans′ (now .rows) (now .spans) next t (readValue (context limits p names pool) d (stateOf p now)) →
@@ -271,14 +271,14 @@ module _ (limits : Limits) (p names pool : List ℕ) (d : ℕ) where
 
 ---- the entries of a map
 
-unfoldable pub mapEntries : Limits → List ℕ → List ℕ → List ℕ → ℕ → ℕ → List (List ℕ) → Reader (Trees Part)
+unfoldable pub mapEntries : Capacities → List ℕ → List ℕ → List ℕ → ℕ → ℕ → List (List ℕ) → Reader (Trees Part)
 mapEntries limits p names pool d n seen = readPairs n seen (readValue (context limits p names pool) d)
 
 one-told : (v : Node Part) → rootCount (single v) ≡ 1
 unfolding rootCount single
 one-told v = refl
 
-module _ (limits : Limits) (p names pool : List ℕ) (d : ℕ) where
+module _ (limits : Capacities) (p names pool : List ℕ) (d : ℕ) where
   step-pair :
       {rows rows′ rows″ spans spans′ spans″ : List ℕ} (now mid next : State) (seen : List (List ℕ)) (n : ℕ) (t v : Node Part) (c c′ : List ℕ) (r : Step) →
       Ran oneTree limits p rows rows′ spans spans′ (now .rows) (now .spans) mid t (readValue (context limits p names pool) d (stateOf p now)) →

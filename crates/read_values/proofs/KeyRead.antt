@@ -14,14 +14,14 @@ use Rattle.payload.specs.Laws.Pool.{false≢true}
 use Rattle.payload.specs.Numbers.{cutTo, readNumber, varint}
 use Rattle.payload.specs.Reader.{Part, Reader, _>>=_, _>>_, andThen, byte, here, must, newRow, ok, pure}
 use Rattle.payload.specs.Reader as reader
-use Rattle.payload.specs.Reading.{Capacities, Context, nodeKey, readItem, readItems, readKids, readMany, readOne, readPoolIndex, readShape, readValue}
+use Rattle.payload.specs.Reading.{Context, nodeKey, readItem, readItems, readKids, readMany, readOne, readPoolIndex, readShape, readValue}
+use Rattle.payload.specs.declared.Capacities.{Capacities}
 use Rattle.payload.specs.Rows.{countWords, itemWords, itemsWords, kidsCountWords, kindWidth, kindsWidth, partWords, rootCount, rowTable, rowWords, unusedWords}
 use Rattle.payload.specs.Shapes.{ItemKind, Shape, isKeyTag, keys, kindsOf, noValue, oneValue, pairs, shape, shapes, values, withChunk, withFields, withKids, withTemplate}
 use Rattle.payload.specs.Trees.{Node, forgetItem, forgetItems, itemValue, itemsValue, cons, keyOf, nil, nodeOf, number, single, string}
 use Rattle.read_items.specs.Context.{PoolFits, contextOf, partOf, partsOf}
 use Rattle.read_values.specs.Did.{Fit, capacities, context, stateOf}
 use Rattle.read_values.specs.Under.{chunkRow, fieldRow}
-use Rattle.read_values.specs.declared.Limits.{Limits}
 use Rattle.read_values.specs.declared.State.{State}
 use Rattle.read_values.proofs.Tags.{by-table, every}
 use Rattle.read_values.proofs.Entries.{KeyNode, keyValue}
@@ -52,7 +52,7 @@ module _ (e : Context) where
   shaped (suc d) s u z q =
       let a = invert (byte s) _ u z q in
       let b = must-ok (leb (a .0) 26) 5 (s .place) (a .1) _ u z (a .3) in
-      let c = invert (newRow (e .capacities .maxRows) (a .1)) _ u z (b .1) in
+      let c = invert (newRow (e .capacities .rows) (a .1)) _ u z (b .1) in
       record { value = readValue e d; tag = a .0; start = c .1; low = leb-true (a .0) 26 (b .0); is = c .3 }
 
   module _ (rv : Reader (Node Part)) (t : ℕ) where
@@ -201,11 +201,11 @@ module _ (c : Capacities) (p : List ℕ) where
 
 -- one row, whose words are the key's
 pub key-read :
-    (limits : Limits) (p names pool : List ℕ) {rows spans : List ℕ} {now : State} → Fit limits p rows spans now → PoolFits p pool →
+    (limits : Capacities) (p names pool : List ℕ) {rows spans : List ℕ} {now : State} → Fit limits p rows spans now → PoolFits p pool →
     (d : ℕ) (t : Node Part) (z : reader.State) → readValue (context limits p names pool) d (stateOf p now) ≡ ok t z → isKeyTag (t .tag) ≡ true → KeyNode p t
 unfolding contextOf
 key-read limits p names pool {now = now} f h d t z q k =
     let s = shaped (context limits p names pool) d (stateOf p now) t z q in
     let g = shape-tag (context limits p names pool) (s .value) (s .tag) (shape (s .tag)) (s .start) t z (s .is) in
-    key-node (capacities limits) p (context limits p names pool) (s .value) (s .tag) (shape (s .tag)) refl (key-shape (s .tag) (s .low) (rw g at k)) (s .start)
-    t z (s .is) (pool-stands (capacities limits) p pool h)
+    key-node limits p (context limits p names pool) (s .value) (s .tag) (shape (s .tag)) refl (key-shape (s .tag) (s .low) (rw g at k)) (s .start)
+    t z (s .is) (pool-stands limits p pool h)

@@ -14,20 +14,20 @@ use Rattle.payload.specs.Trees.{Node, cons, nil, single}
 use Rattle.read_values.specs.Told.{Told}
 use Rattle.read_values.specs.Did.{manyTrees, oneTree, Fit, Ran, Did, stateOf}
 use Rattle.read_values.specs.Laws.Did.{ran-of, no-of, ran-more}
-use Rattle.read_values.specs.declared.Limits.{Limits}
+use Rattle.payload.specs.declared.Capacities.{Capacities}
 use Rattle.read_values.specs.declared.State.{State}
 use Rattle.read_values.specs.declared.Step.{Step}
 use Rattle.read_values.specs.declared.Step.the-variants.{Done, Refused}
 
 -- the tables after a part that was read fit where they fitted before it
 pub fit-next :
-    {limits : Limits} {p rows rows′ spans spans′ : List ℕ} {now next : State} → Fit limits p rows spans now → next .at ≤ length p → next .rows ≤ limits .rows →
+    {limits : Capacities} {p rows rows′ spans spans′ : List ℕ} {now next : State} → Fit limits p rows spans now → next .at ≤ length p → next .rows ≤ limits .rows →
     next .spans ≤ limits .spans → length rows′ ≡ length rows → length spans′ ≡ length spans → Fit limits p rows′ spans′ next
 fit-next f a b c l l′ =
     record { place = a; used = b; covered = c; room = omega (arith, f .room, l); cover = omega (arith, f .cover, l′); few = f .few; few-spans = f .few-spans }
 
 -- no tree: nothing is stored
-pub did-none : {limits : Limits} {p rows spans : List ℕ} {now : State} → Fit limits p rows spans now →
+pub did-none : {limits : Capacities} {p rows spans : List ℕ} {now : State} → Fit limits p rows spans now →
     Did manyTrees limits p rows rows spans spans (now .rows) (now .spans) (Done now) (pure nil (stateOf p now))
 unfolding pure rowTable spanTable spanWords Told
 did-none {rows = rows} {spans = spans} f = record {
@@ -48,7 +48,7 @@ did-none {rows = rows} {spans = spans} f = record {
 }
 
 -- After k trees: whatever the rest does from here, all of it does from the start.
-pub record Sofar (limits : Limits) (p rows₀ rows spans₀ spans : List ℕ) (rd : Reader (Node Part)) (st now : State) (count k : ℕ) : Type 0 where
+pub record Sofar (limits : Capacities) (p rows₀ rows spans₀ spans : List ℕ) (rd : Reader (Node Part)) (st now : State) (count k : ℕ) : Type 0 where
   pub fit : Fit limits p rows spans now
   pub upto : k ≤ count
   pub same : length rows ≡ length rows₀
@@ -58,7 +58,7 @@ pub record Sofar (limits : Limits) (p rows₀ rows spans₀ spans : List ℕ) (r
 
 -- one tree, and the rest
 step-did :
-    (limits : Limits) (p rows rows′ spans spans′ : List ℕ) (rd : Reader (Node Part)) (now next : State) (n : ℕ) (t : Node Part) (c c′ : List ℕ) (r : Step) →
+    (limits : Capacities) (p rows rows′ spans spans′ : List ℕ) (rd : Reader (Node Part)) (now next : State) (n : ℕ) (t : Node Part) (c c′ : List ℕ) (r : Step) →
     Ran oneTree limits p rows rows′ spans spans′ (now .rows) (now .spans) next t (rd (stateOf p now)) →
     Did manyTrees limits p rows′ c spans′ c′ (next .rows) (next .spans) r (readMany n rd (stateOf p next)) →
     Did manyTrees limits p rows c spans c′ (now .rows) (now .spans) r (readMany (suc n) rd (stateOf p now))
@@ -68,7 +68,7 @@ step-did limits p rows rows′ spans spans′ rd now next n t c c′ (Done z) g 
     record { out = (cons t (d .out .0), ran-more g (d .out .1) _ (rw (g .is, d .out .1 .is))) }
 
 -- one tree alone
-pub did-one : {limits : Limits} {p a b a′ b′ : List ℕ} {i j : ℕ} (rd : Reader (Node Part)) (s : reader.State) (r : Step) →
+pub did-one : {limits : Capacities} {p a b a′ b′ : List ℕ} {i j : ℕ} (rd : Reader (Node Part)) (s : reader.State) (r : Step) →
     Did oneTree limits p a b a′ b′ i j r (rd s) → Did manyTrees limits p a b a′ b′ i j r (readMany 1 rd s)
 unfolding readMany _>>=_ andThen pure single cons
 did-one rd s (Refused m q) d = record { out = rw (d .out) }
@@ -91,7 +91,7 @@ did-one rd s (Done z) d =
       );
     }
 
-module _ {limits : Limits} {p : List ℕ} {rows₀ spans₀ : List ℕ} {rd : Reader (Node Part)} {st : State} {count : ℕ} where
+module _ {limits : Capacities} {p : List ℕ} {rows₀ spans₀ : List ℕ} {rd : Reader (Node Part)} {st : State} {count : ℕ} where
   pub sofar-start : Fit limits p rows₀ spans₀ st → Sofar limits p rows₀ rows₀ spans₀ spans₀ rd st st count 0
   sofar-start f = record {
     fit = f;

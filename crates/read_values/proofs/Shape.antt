@@ -224,12 +224,12 @@ module _ (e : Context) (rv : Reader (Node Part)) where
   ---- a chunk or field row: room for it, then its shape
 
   pub row-full :
-      (p : List ℕ) (i ro sp t : ℕ) (ks : List ItemKind) (kk : Kids) → e .capacities .maxRows ≤ ro → readUntagged e rv t ks kk (stateAt p i ro sp) ≡ refused 22 i
+      (p : List ℕ) (i ro sp t : ℕ) (ks : List ItemKind) (kk : Kids) → e .capacities .rows ≤ ro → readUntagged e rv t ks kk (stateAt p i ro sp) ≡ refused 22 i
   unfolding readUntagged _>>_ andThen newRow must
   row-full p i ro sp t ks kk h = rw (le-ltb _ _ h)
 
   pub row-room :
-      (p : List ℕ) (i ro sp t : ℕ) (ks : List ItemKind) (kk : Kids) → ro < e .capacities .maxRows →
+      (p : List ℕ) (i ro sp t : ℕ) (ks : List ItemKind) (kk : Kids) → ro < e .capacities .rows →
       readUntagged e rv t ks kk (stateAt p i ro sp) ≡ readShape e rv t (withKids ks kk) (stateAt p i (ro + 1) sp)
   unfolding readUntagged readShape _>>_ andThen newRow must
   row-room p i ro sp t ks kk h = rw (lt-ltb _ _ h, add-one ro)
@@ -267,13 +267,13 @@ module _ (e : Context) (p : List ℕ) (i ro sp : ℕ) where
       value-deep zero z = rw (byte-in h, le-leb _ _ g)
       value-deep (suc d) z = absurd (omega arith)
 
-      pub value-full : (d : ℕ) → (d ≡ 0 → ⊥) → e .capacities .maxRows ≤ ro → readValue e d (stateAt p i ro sp) ≡ refused 22 (i + 1)
+      pub value-full : (d : ℕ) → (d ≡ 0 → ⊥) → e .capacities .rows ≤ ro → readValue e d (stateAt p i ro sp) ≡ refused 22 (i + 1)
       unfolding readValue _>>=_ _>>_ andThen here must newRow
       value-full zero z f = absurd (z refl)
       value-full (suc d) z f = rw (byte-in h, le-leb _ _ g, le-ltb _ _ f)
 
       pub value-shape :
-          (d : ℕ) → (d ≡ 0 → ⊥) → ro < e .capacities .maxRows →
+          (d : ℕ) → (d ≡ 0 → ⊥) → ro < e .capacities .rows →
           readValue e d (stateAt p i ro sp) ≡ readShape e (readValue e (d - 1)) (getD p i 0) (shape (getD p i 0)) (stateAt p (i + 1) (ro + 1) sp)
       unfolding readValue _>>=_ _>>_ andThen here must newRow
       value-shape zero z f = absurd (z refl)

@@ -28,7 +28,7 @@ use Rattle.read_code.specs.declared.CodeAt.the-variants as code-at
 use Rattle.read_values.specs.Told.{RowTold}
 use Rattle.read_values.specs.Did.{manyTrees, oneTree, Fit, Ran, Did, capacities, context, stateOf}
 use Rattle.read_values.specs.Laws.Did.{did-node, two-runs, own-rows, own-spans, own-told, cons-rows, cons-spans, cons-told, length-spanWords}
-use Rattle.read_values.specs.declared.Limits.{Limits}
+use Rattle.payload.specs.declared.Capacities.{Capacities}
 use Rattle.read_values.specs.declared.State.{State}
 use Rattle.read_values.specs.declared.Step.{Step}
 use Rattle.read_values.specs.declared.Step.the-variants.{Done, Refused}
@@ -65,14 +65,14 @@ row-told t sh e is n m {a} {b} {c} {d} w k h =
     let ws : rowWords t is m ≡ t ∷ a ∷ b ∷ c ∷ d ∷ [] = rw (e, ← h) (ap (λ (l : List ℕ). t ∷ l) w) in
     (ws, record { a = a; b = b; c = c; d = d; words = ws; told = rw (e, k) h })
 
-module _ (limits : Limits) (p names pool : List ℕ) (rv : Reader (Node Part)) (t : ℕ) (sh : Shape) (its-shape : shape t ≡ sh) (plain : noTemplate sh ≡ true) where
+module _ (limits : Capacities) (p names pool : List ℕ) (rv : Reader (Node Part)) (t : ℕ) (sh : Shape) (its-shape : shape t ≡ sh) (plain : noTemplate sh ≡ true) where
   pub did-shape : (i : ℕ) {a b c a′ c′ : List ℕ} {own sp : ℕ} {x y z w n next : ℕ} {r : Step} →
       RowRead p names pool i sh x y z w n next → b ≡ put a (rowWidth * own) (t ∷ x ∷ y ∷ z ∷ w ∷ []) →
       Did manyTrees limits p b c a′ c′ (own + 1) sp r (readUnder (context limits p names pool) rv sh n (stateAt p next (own + 1) sp)) →
       Did oneTree limits p a c a′ c′ own sp r (readShape (context limits p names pool) rv t sh (stateAt p i (own + 1) sp))
   unfolding andThen _>>=_ spanWords
   did-shape i {a′ = a′} {own = own} {sp = sp} {x = x} {y = y} {z = z} {w = w} {n = n} {next = next} h wr d =
-      rw (shape-head (context limits p names pool) rv t sh (stateAt p i (own + 1) sp) plain, h .is (capacities limits) .is (own + 1) sp)
+      rw (shape-head (context limits p names pool) rv t sh (stateAt p i (own + 1) sp) plain, h .is limits .is (own + 1) sp)
       (did-node t (h .items) (t ∷ x ∷ y ∷ z ∷ w ∷ []) [] wr refl (sym (put-none a′ (2 * sp))) (omega arith) (ap spanWords (sym (h .no-spans)))
       (λ ts s e.
       row-told t sh its-shape (h .items) n (rootCount ts) (h .words) (h .told)
@@ -81,7 +81,7 @@ module _ (limits : Limits) (p names pool : List ℕ) (rv : Reader (Node Part)) (
   pub no-shape : (own sp i : ℕ) {n q : ℕ} → HeadOut p names pool i sh (head.Refused n q) →
       readShape (context limits p names pool) rv t sh (stateAt p i (own + 1) sp) ≡ refused n q
   unfolding andThen
-  no-shape own sp i h = rw (shape-head (context limits p names pool) rv t sh (stateAt p i (own + 1) sp) plain, h (capacities limits) .is (own + 1) sp)
+  no-shape own sp i h = rw (shape-head (context limits p names pool) rv t sh (stateAt p i (own + 1) sp) plain, h limits .is (own + 1) sp)
 
   -- nothing follows the head
   pub did-leaf :
@@ -109,7 +109,7 @@ unfolding spanWords
 closure-spans t is f ts e = own-spans t is (cons f ts) ∙ ap (λ (m : List Span). spanWords m ++ spanWords (spanTable (cons f ts))) e
 
 pub did-closure :
-    {limits : Limits} {p : List ℕ} {a b c e a′ b′ e′ : List ℕ} {i k j : ℕ} {mid : State} {r : Step} {f : Node Part} {x : Result (Node Part)}
+    {limits : Capacities} {p : List ℕ} {a b c e a′ b′ e′ : List ℕ} {i k j : ℕ} {mid : State} {r : Step} {f : Node Part} {x : Result (Node Part)}
     {y : Result (Trees Part)} (t : ℕ) (is : List (Item Part)) (row : List ℕ) → i + 1 ≡ k → Ran oneTree limits p a b a′ b′ k j mid f x →
     c ≡ put b (rowWidth * i) row → length row ≡ rowWidth → itemsSpans is ≡ [] →
     ((ts : Trees Part) (z : reader.State) → y ≡ ok ts z → (rowWords t is (rootCount (cons f ts)) ≡ row) × RowTold t is (rootCount (cons f ts))) →
@@ -185,7 +185,7 @@ chunk-under : (m : ℕ) → rowsUnder (withKids (ItemKind.code ∷ []) values) m
 unfolding rowsUnder
 chunk-under m = refl
 
-module _ (limits : Limits) (p names pool : List ℕ) (rv : Reader (Node Part)) (i own sp : ℕ) where
+module _ (limits : Capacities) (p names pool : List ℕ) (rv : Reader (Node Part)) (i own sp : ℕ) where
   pub no-code :
       {n q : ℕ} → ((rows : ℕ) → readCode (limits .spans) (stateAt p i rows sp) ≡ refused n q) →
       readShape (context limits p names pool) rv 32 (withKids (ItemKind.code ∷ []) values) (stateAt p i (own + 1) sp) ≡ refused n q

@@ -6,14 +6,14 @@ use lib.ListN.{length}
 use Rattle.slices.specs.Put.{put}
 use Rattle.payload.specs.Reader.{Part, Result, ok, refused}
 use Rattle.payload.specs.Reader as reader
-use Rattle.payload.specs.Reading.{Capacities, Context}
+use Rattle.payload.specs.Reading.{Context}
+use Rattle.payload.specs.declared.Capacities.{Capacities}
 use Rattle.payload.specs.Rows.{rowTable, rowWidth, spanTable}
 use Rattle.payload.specs.Tables.{spanWords}
 use Rattle.payload.specs.Trees.{Node, Trees, single}
 use Rattle.read_items.specs.Context.{contextOf}
 use Rattle.read_items.specs.Reads.{stateAt}
 use Rattle.read_values.specs.Told.{Told}
-use Rattle.read_values.specs.declared.Limits.{Limits}
 use Rattle.read_values.specs.declared.State.{State}
 use Rattle.read_values.specs.declared.Step.{Step}
 use Rattle.read_values.specs.declared.Step.the-variants.{Done, Refused}
@@ -22,11 +22,8 @@ use Rattle.read_values.specs.declared.Step.the-variants.{Done, Refused}
 abbrev pub stateOf : List ℕ → State → reader.State
 stateOf p s = stateAt p (s .at) (s .rows) (s .spans)
 
-abbrev pub capacities : Limits → Capacities
-capacities l = record { maxRows = l .rows; maxSpans = l .spans; maxStrings = l .strings; maxStarts = l .starts }
-
-abbrev pub context : Limits → List ℕ → List ℕ → List ℕ → Context
-context l p names pool = contextOf (capacities l) p names pool
+abbrev pub context : Capacities → List ℕ → List ℕ → List ℕ → Context
+context l p names pool = contextOf l p names pool
 
 -- what is read, as trees
 pub record View (A : Type 0) : Type 0 where
@@ -46,7 +43,7 @@ abbrev pub spansIn : {A : Type 0} → View A → A → List ℕ
 spansIn view t = spanWords (spanTable (view .treesOf t))
 
 -- what is asked of the tables and the state
-pub record Fit (limits : Limits) (p rows spans : List ℕ) (s : State) : Type 0 where
+pub record Fit (limits : Capacities) (p rows spans : List ℕ) (s : State) : Type 0 where
   pub place : s .at ≤ length p
   pub used : s .rows ≤ limits .rows
   pub covered : s .spans ≤ limits .spans
@@ -56,7 +53,7 @@ pub record Fit (limits : Limits) (p rows spans : List ℕ) (s : State) : Type 0 
   pub few-spans : limits .spans ≤ 16777216
 
 -- x is t and the state s; t's words were stored into rows from row i on and into spans from span j on, and nothing else changed
-pub record Ran {A : Type 0} (view : View A) (limits : Limits) (p rows rows′ spans spans′ : List ℕ) (i j : ℕ) (s : State) (t : A) (x : Result A) : Type 0 where
+pub record Ran {A : Type 0} (view : View A) (limits : Capacities) (p rows rows′ spans spans′ : List ℕ) (i j : ℕ) (s : State) (t : A) (x : Result A) : Type 0 where
   pub is : x ≡ ok t (stateOf p s)
   pub wrote : rows′ ≡ put rows (rowWidth * i) (rowsIn view t)
   pub size : rowWidth * s .rows ≡ rowWidth * i + length (rowsIn view t)
@@ -67,10 +64,10 @@ pub record Ran {A : Type 0} (view : View A) (limits : Limits) (p rows rows′ sp
   pub place : s .at ≤ length p
   pub told : Told (view .treesOf t)
 
-abbrev pub Out : {A : Type 0} → View A → Limits → List ℕ → List ℕ → List ℕ → List ℕ → List ℕ → ℕ → ℕ → Step → Result A → Type 0
+abbrev pub Out : {A : Type 0} → View A → Capacities → List ℕ → List ℕ → List ℕ → List ℕ → List ℕ → ℕ → ℕ → Step → Result A → Type 0
 Out {A} view limits p rows rows′ spans spans′ i j (Done s) x = (t : A) × Ran view limits p rows rows′ spans spans′ i j s t x
 Out {A} view limits p rows rows′ spans spans′ i j (Refused n q) x = x ≡ refused n q
 
 -- The contract of a part of the reader. After a refusal nothing is said of the tables.
-pub record Did {A : Type 0} (view : View A) (limits : Limits) (p rows rows′ spans spans′ : List ℕ) (i j : ℕ) (r : Step) (x : Result A) : Type 0 where
+pub record Did {A : Type 0} (view : View A) (limits : Capacities) (p rows rows′ spans spans′ : List ℕ) (i j : ℕ) (r : Step) (x : Result A) : Type 0 where
   pub out : Out view limits p rows rows′ spans spans′ i j r x

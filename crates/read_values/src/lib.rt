@@ -7,14 +7,7 @@ ghost use Rattle.payload.specs.Reading.{readChunk};
 ghost use Rattle.read_items.specs.Context.{PoolFits};
 ghost use Rattle.read_items.specs.Reads.{stateAt};
 ghost use Rattle.read_values.specs.Did.{Fit, Did, oneTree, context};
-
-// How many rows, spans, strings and starts the lent tables hold.
-pub struct Limits {
-    pub rows: usize,
-    pub spans: usize,
-    pub strings: usize,
-    pub starts: usize,
-}
+use payload::Capacities;
 
 // The next unread byte, and the rows and spans used.
 pub struct State {
@@ -39,7 +32,7 @@ pub fn read_outer(
     pool: &[u64],
     rows: &mut [u64],
     spans: &mut [u64],
-    limits: Limits,
+    limits: Capacities,
     at: usize,
 ) -> Step
     requires { ⌜ Fit limits (now bytes) (now rows) (now spans) (record { at = at; rows = 0; spans = 0 }) ⌝ }

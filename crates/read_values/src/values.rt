@@ -7,11 +7,11 @@ ghost use Rattle.payload.specs.Shapes.{shape};
 ghost use Rattle.read_items.specs.Context.{PoolFits};
 ghost use Rattle.read_values.specs.Did.{Fit, Did, oneTree, manyTrees, context, stateOf};
 ghost use Rattle.read_values.specs.Under.{chunkRow, fieldRow, readUnder};
-use crate::Limits;
 use crate::State;
 use crate::Step;
 use crate::keys;
 use crate::rows;
+use payload::Capacities;
 use read_code::CodeAt;
 use read_items::Head;
 use read_items::Number;
@@ -21,7 +21,7 @@ use read_items::items;
 // A value, with `left` levels left.
 pub fn read_value(
     left: usize,
-    limits: Limits,
+    limits: Capacities,
     bytes: &[u8],
     names: &[u8],
     pool: &[u64],
@@ -101,7 +101,7 @@ fn read_under(
     left: usize,
     tag: u64,
     count: u64,
-    limits: Limits,
+    limits: Capacities,
     bytes: &[u8],
     names: &[u8],
     pool: &[u64],
@@ -130,7 +130,7 @@ fn read_under(
 fn read_values(
     left: usize,
     count: u64,
-    limits: Limits,
+    limits: Capacities,
     bytes: &[u8],
     names: &[u8],
     pool: &[u64],
@@ -162,7 +162,7 @@ fn read_values(
 fn read_fields(
     left: usize,
     count: u64,
-    limits: Limits,
+    limits: Capacities,
     bytes: &[u8],
     names: &[u8],
     pool: &[u64],
@@ -193,7 +193,7 @@ fn read_fields(
 // A field row, and its value.
 fn read_field(
     left: usize,
-    limits: Limits,
+    limits: Capacities,
     bytes: &[u8],
     names: &[u8],
     pool: &[u64],
@@ -235,7 +235,7 @@ fn read_field(
 fn read_closure(
     left: usize,
     own: usize,
-    limits: Limits,
+    limits: Capacities,
     bytes: &[u8],
     names: &[u8],
     pool: &[u64],
@@ -282,7 +282,7 @@ fn read_closure(
 // A chunk row: its code and spans, and its constants.
 pub fn read_chunk(
     left: usize,
-    limits: Limits,
+    limits: Capacities,
     bytes: &[u8],
     names: &[u8],
     pool: &[u64],
@@ -327,7 +327,7 @@ pub fn read_chunk(
 fn read_keys(
     left: usize,
     count: u64,
-    limits: Limits,
+    limits: Capacities,
     bytes: &[u8],
     names: &[u8],
     pool: &[u64],
@@ -364,7 +364,7 @@ fn read_keys(
 fn read_pairs(
     left: usize,
     count: u64,
-    limits: Limits,
+    limits: Capacities,
     bytes: &[u8],
     names: &[u8],
     pool: &[u64],

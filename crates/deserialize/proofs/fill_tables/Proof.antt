@@ -54,7 +54,7 @@ returns-2 c =
     let n = count .given .0 .0 in
     let e : 2 * n - 0 ≡ 2 * n = omega arith in
     rw (← limits .ensures)
-    (filled-payload (capacities (limits .result)) (x .names .now) (x .bytes .now) (if1 .left) _ e read (at-read-script .read-script .ensures))
+    (filled-payload (limits .result) (x .names .now) (x .bytes .now) (if1 .left) _ e read (at-read-script .read-script .ensures))
 
 returns-3 : tie.Need-returns-3
 returns-3 c =
@@ -63,7 +63,7 @@ returns-3 c =
     let if1 = at-read-pool .before .before .before .if1 in
     let x = at-read-pool .before .before .before .before .before .before .before .before .before .before .args in
     let refused = no-pool (c .before .n .given .1) (at-read-pool .read-pool .ensures) in
-    rw (← limits .ensures) (filled-no (no-pool-read (capacities (limits .result)) (x .names .now) (x .bytes .now) (if1 .left) refused))
+    rw (← limits .ensures) (filled-no (no-pool-read (limits .result) (x .names .now) (x .bytes .now) (if1 .left) refused))
 
 pub fill-tables-spec : {M : Type 1} → statement M
 fill-tables-spec =

@@ -5,7 +5,7 @@ use Prim.Native.Nat.{ℕ}
 use lib.ListN.{length, length-replicate, replicate}
 use borrow.Author.Needs.{needs}
 use Rattle.payload.specs.House.{house}
-use Rattle.payload.specs.Reading.{Capacities}
+use Rattle.payload.specs.declared.Capacities.{Capacities}
 use Rattle.payload.specs.Tables.{Leaves, capacitiesOf, readAnswer, readNumber}
 use Rattle.payload.specs.declared.Read.{Read}
 use Rattle.host.specs.Host.{checkCapacities}

@@ -27,7 +27,8 @@ use Rattle.payload.specs.Laws.SoundTables.{holds-sound, obeyed-width}
 use Rattle.payload.specs.Laws.Tables.{length-partsWords}
 use Rattle.payload.specs.Names.{isListed}
 use Rattle.payload.specs.Reader.{Part, Result, State, ok, refused, start}
-use Rattle.payload.specs.Reading.{Capacities, Payload, readPayload}
+use Rattle.payload.specs.Reading.{Payload, readPayload}
+use Rattle.payload.specs.declared.Capacities.{Capacities}
 use Rattle.payload.specs.Rows.{itemsSpans, partWords, rowTable, rowWidth, spanTable}
 use Rattle.payload.specs.Sound.{Tables, isNil, scriptOf, tables}
 use Rattle.payload.specs.Spans.{Span, smallSpans}

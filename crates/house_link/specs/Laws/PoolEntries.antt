@@ -11,7 +11,8 @@ use borrow.Author.Tests.{ltb-true}
 use Rattle.payload.specs.Laws.Keeps.{invert, not-ok}
 use Rattle.payload.specs.Numbers.{cutTo, readNumber, varint}
 use Rattle.payload.specs.Reader.{Part, Reader, State, _>>=_, _>>_, byte, here, must, newRow, ok, pure}
-use Rattle.payload.specs.Reading.{Capacities, Context, Payload, nodeKey, readChunk, readFlagged, readItem, readItems, readKeys, readKids, readLineIndex, readMany, readOne, readPairs, readPayload, readPool, readPoolIndex, readShape, readStarts, readUntagged, readValue, testKey}
+use Rattle.payload.specs.Reading.{Context, Payload, nodeKey, readChunk, readFlagged, readItem, readItems, readKeys, readKids, readLineIndex, readMany, readOne, readPairs, readPayload, readPool, readPoolIndex, readShape, readStarts, readUntagged, readValue, testKey}
+use Rattle.payload.specs.declared.Capacities.{Capacities}
 use Rattle.payload.specs.Shapes.{ItemKind, Kids, Shape, keys, noValue, oneValue, pairs, shape, values, withChunk, withFields, withKids, withTemplate}
 use Rattle.payload.specs.Spans.{readCode}
 use Rattle.payload.specs.Trees.{Item, LineIndex, Node, Trees, code, cons, nativeName, nil, nodeOf, number, recordName, single, string}
@@ -112,7 +113,7 @@ module _ (x : Context) where
   yields-item ItemKind.string = yields-bind yields-index (λ b h. yields-pure (string b) ItemFrom (one-from b h))
   yields-item ItemKind.nativeName = yields-after here (λ p. yields-bind yields-index (λ b h. yields-check _ 14 p (λ e. yields-pure (nativeName b) ItemFrom (one-from b h))))
   yields-item ItemKind.recordName = yields-bind yields-index (λ b h. yields-pure (recordName b) ItemFrom none-from)
-  yields-item ItemKind.code = yields-after (readCode (x .capacities .maxSpans)) (λ c. yields-pure (code (c .part) (c .spans)) ItemFrom none-from)
+  yields-item ItemKind.code = yields-after (readCode (x .capacities .spans)) (λ c. yields-pure (code (c .part) (c .spans)) ItemFrom none-from)
 
   yields-items : (ks : List ItemKind) → Yields (readItems x ks) ItemsFrom
   unfolding readItems itemsStrings
@@ -150,7 +151,7 @@ module _ (x : Context) where
 
     yields-untagged : (t : ℕ) (ks : List ItemKind) (kk : Kids) → Yields (readUntagged x r t ks kk) NodeFrom
     unfolding readUntagged
-    yields-untagged t ks kk = yields-then (newRow (x .capacities .maxRows)) (yields-bind (yields-items ks) (λ is h. yields-bind (yields-kids kk) (λ ts k. yields-pure (nodeOf t is ts) NodeFrom (node-from t is ts h k))))
+    yields-untagged t ks kk = yields-then (newRow (x .capacities .rows)) (yields-bind (yields-items ks) (λ is h. yields-bind (yields-kids kk) (λ ts k. yields-pure (nodeOf t is ts) NodeFrom (node-from t is ts h k))))
 
   module _ {r : Reader (Node Part)} (g : Yields r NodeFrom) where
     yields-shape : (t : ℕ) (sh : Shape) → Yields (readShape x r t sh) NodeFrom
@@ -167,7 +168,7 @@ module _ (x : Context) where
     where
       none-items : ItemsFrom []
       none-items = unfold itemsStrings in none-from
-  yields-value (suc d) = yields-after here (λ p. yields-after byte (λ t. yields-check (leb t 26) 5 p (λ e. yields-then (newRow (x .capacities .maxRows)) (yields-shape (yields-value d) t (shape t)))))
+  yields-value (suc d) = yields-after here (λ p. yields-after byte (λ t. yields-check (leb t 26) 5 p (λ e. yields-then (newRow (x .capacities .rows)) (yields-shape (yields-value d) t (shape t)))))
 
   yields-chunk : Yields (readChunk x) NodeFrom
   unfolding readChunk
@@ -179,7 +180,7 @@ module _ (x : Context) where
   yields-flagged : (f : ℕ) → Yields (readFlagged x f) LineFrom
   unfolding readFlagged lineStrings
   yields-flagged zero = yields-pure none LineFrom none-from
-  yields-flagged (suc f) = yields-bind yields-index (λ b h. yields-after varint (λ n. yields-after (readStarts (x .capacities .maxStarts) n 0 (pos 0)) (λ ss.
+  yields-flagged (suc f) = yields-bind yields-index (λ b h. yields-after varint (λ n. yields-after (readStarts (x .capacities .starts) n 0 (pos 0)) (λ ss.
       yields-pure (some (record { name = b; starts = ss })) LineFrom (one-from b h))))
 
   yields-line : Yields (readLineIndex x) LineFrom
@@ -198,7 +199,7 @@ script-from c listed pool outer line h k = entries-append pool _ _ (cons-from (r
 
 yields-payload : (c : Capacities) (listed : List ℕ → Bool) → Yields (readPayload c listed) ScriptFrom
 unfolding readPayload
-yields-payload c listed = yields-after (readPool (c .maxStrings)) (λ pool. yields-bind (yields-chunk (record { capacities = c; pool = pool; listed = listed })) (λ outer h. yields-bind (yields-line (record { capacities = c; pool = pool; listed = listed })) (λ line k.
+yields-payload c listed = yields-after (readPool (c .strings)) (λ pool. yields-bind (yields-chunk (record { capacities = c; pool = pool; listed = listed })) (λ outer h. yields-bind (yields-line (record { capacities = c; pool = pool; listed = listed })) (λ line k.
     yields-pure (record { pool = pool; script = record { outer = outer; line = line } }) ScriptFrom (script-from c listed pool outer line h k))))
 
 pub gathered-entries : (c : Capacities) (listed : List ℕ → Bool) (s : State) (u : Payload) (s′ : State) → readPayload c listed s ≡ ok u s′ → Entries (u .pool) (gathered (u .script))

@@ -20,7 +20,8 @@ use Rattle.payload.specs.Choice.{_or_, if_then_else_}
 use Rattle.payload.specs.Laws.Keeps.{invert, not-ok}
 use Rattle.payload.specs.Numbers.{afterVarint, varint}
 use Rattle.payload.specs.Reader.{Part, State, _>>=_, _>>_, advanced, body, here, must, ok, pure}
-use Rattle.payload.specs.Reading.{Capacities, Payload, readChunk, readLineIndex, readPayload, readPool, readString, readStrings}
+use Rattle.payload.specs.Reading.{Payload, readChunk, readLineIndex, readPayload, readPool, readString, readStrings}
+use Rattle.payload.specs.declared.Capacities.{Capacities}
 use Rattle.payload.specs.Rows.{partWords}
 use Rattle.payload.specs.Tables.{partsWords}
 use Rattle.payload.specs.Write.{hasBytes, internedParts}
@@ -105,12 +106,12 @@ strings-rise most (suc n) k s ls s′ e =
 pub pool-rises : (c : Capacities) (listed : List ℕ → Bool) (s : State) (u : Payload) (s′ : State) → readPayload c listed s ≡ ok u s′ → Rising 0 (u .pool)
 unfolding readPayload readPool _>>=_ pure
 pool-rises c listed s u s′ e =
-    let x = invert (readPool (c .maxStrings) s) _ u s′ e in
+    let x = invert (readPool (c .strings) s) _ u s′ e in
     let y = invert (readChunk (record { capacities = c; pool = x .0; listed = listed }) (x .1)) _ u s′ (x .3) in
     let v = invert (readLineIndex (record { capacities = c; pool = x .0; listed = listed }) (y .1)) _ u s′ (y .3) in
     let b : x .0 ≡ u .pool = cc (v .3) in
     let z = invert (varint s) _ (x .0) (x .1) (x .2) in
-    rw (← b) (rising-from 0 (z .1 .place) (x .0) (omega arith) (strings-rise (c .maxStrings) (z .0) 0 (z .1) (x .0) (x .1) (z .3)))
+    rw (← b) (rising-from 0 (z .1 .place) (x .0) (omega arith) (strings-rise (c .strings) (z .0) 0 (z .1) (x .0) (x .1) (z .3)))
 
 abbrev offsetAt : List Part → ℕ → ℕ
 offsetAt pool i = getD pool i noPart .offset

@@ -14,7 +14,8 @@ use Rattle.payload.specs.Laws.Keeps.{invert}
 use Rattle.payload.specs.Laws.ReadBack.{pool-back}
 use Rattle.payload.specs.Laws.Rules.{Small}
 use Rattle.payload.specs.Reader.{Part, State, _>>=_, ok, pure, start}
-use Rattle.payload.specs.Reading.{Capacities, Payload, readChunk, readLineIndex, readPayload, readPool}
+use Rattle.payload.specs.Reading.{Payload, readChunk, readLineIndex, readPayload, readPool}
+use Rattle.payload.specs.declared.Capacities.{Capacities}
 use Rattle.payload.specs.Trees.{Script, forgetScript, single}
 use Rattle.payload.specs.Write.{hasBytes, internedParts}
 use Rattle.payload.specs.Writing.{concat, gathered, poolOf, writeLineIndex, writeTrees, writing}
@@ -81,7 +82,7 @@ module _ (c : Capacities) (small : Small c) (listed : List ℕ → Bool) (p : Li
   pub read-strings : bytesOf (u .pool) ≡ poolOf s
   unfolding readPayload _>>=_ pure
   read-strings =
-      let x = invert (readPool (c .maxStrings) (start p)) _ u z e in
+      let x = invert (readPool (c .strings) (start p)) _ u z e in
       let y = invert (readChunk (record { capacities = c; pool = x .0; listed = listed }) (x .1)) _ u z (x .3) in
       let v = invert (readLineIndex (record { capacities = c; pool = x .0; listed = listed }) (y .1)) _ u z (y .3) in
       let short : length (writing s) < 2 ^ 64 = let q = ap length (w .its-writing) in omega (arith, w .within) in

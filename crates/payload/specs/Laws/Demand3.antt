@@ -16,7 +16,8 @@ use Rattle.payload.specs.Laws.Rules.{Small}
 use Rattle.payload.specs.Laws.SoundTables.{sound-holds, sound-script}
 use Rattle.payload.specs.Names.{isListed}
 use Rattle.payload.specs.Reader.{State, ok}
-use Rattle.payload.specs.Reading.{Capacities, Payload}
+use Rattle.payload.specs.Reading.{Payload}
+use Rattle.payload.specs.declared.Capacities.{Capacities}
 use Rattle.payload.specs.Sound.{Tables}
 use Rattle.payload.specs.Tables.{capacitiesOf, reading, tablesOf}
 use Rattle.payload.specs.Trees.{forgetScript}

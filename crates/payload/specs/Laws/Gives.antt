@@ -9,7 +9,7 @@ use lib.ListN.{drop, length, length-append, take}
 use lib.Seq.{drop-append-seam, drop-drop, take-append-seam}
 use borrow.Author.Tests.{le-leb, lt-ltb}
 use Rattle.payload.specs.Reader.{Part, Reader, Result, State, _>>=_, _>>_, advanced, andThen, body, byte, firstByte, here, must, newRow, newSpans, ok, pure, withRow, withSpans}
-use Rattle.payload.specs.Reading.{Capacities}
+use Rattle.payload.specs.declared.Capacities.{Capacities}
 
 ---- states further on
 
@@ -45,7 +45,7 @@ unfolding andThen
 then-is x f a s y e g = rw e g
 
 pub record Gives (c : Capacities) {A : Type 0} (r : Reader A) (bs : List ℕ) (k m : ℕ) (P : A → Type 0) : Type 0 where
-  pub run : (s : State) (tail : List ℕ) → s .rest ≡ bs ++ tail → s .rows + k ≤ c .maxRows → s .spans + m ≤ c .maxSpans
+  pub run : (s : State) (tail : List ℕ) → s .rest ≡ bs ++ tail → s .rows + k ≤ c .rows → s .spans + m ≤ c .spans
       → (a : A) × (r s ≡ ok a (after (length bs) k m s)) × P a
 
 module _ {c : Capacities} where
@@ -56,7 +56,7 @@ module _ {c : Capacities} where
   gives-as g e f h = rw (← e, ← f, ← h) g
 
   -- where the capacities would not do there is nothing to show
-  pub gives-fits : {A : Type 0} {r : Reader A} {bs : List ℕ} {k m : ℕ} {P : A → Type 0} → (k ≤ c .maxRows → m ≤ c .maxSpans → Gives c r bs k m P) → Gives c r bs k m P
+  pub gives-fits : {A : Type 0} {r : Reader A} {bs : List ℕ} {k m : ℕ} {P : A → Type 0} → (k ≤ c .rows → m ≤ c .spans → Gives c r bs k m P) → Gives c r bs k m P
   gives-fits f = record { run = λ s t e hr hs. f (omega arith) (omega arith) .run s t e hr hs }
 
   pub gives-so : {A : Type 0} {r : Reader A} {bs : List ℕ} {k m : ℕ} {P : A → Type 0} (Q : A → Type 0) → ((a : A) → P a → Q a) → Gives c r bs k m P → Gives c r bs k m Q
@@ -68,7 +68,7 @@ module _ {c : Capacities} where
 
   module _ {A B : Type 0} (r : Reader A) (f : A → Reader B) (bs bs′ : List ℕ) (k k′ m m′ : ℕ) (P : A → Type 0) (Q : B → Type 0) where
     bind-run : Gives c r bs k m P → ((a : A) → P a → Gives c (f a) bs′ k′ m′ Q) → (s : State) (t : List ℕ) → s .rest ≡ (bs ++ bs′) ++ t
-        → s .rows + (k + k′) ≤ c .maxRows → s .spans + (m + m′) ≤ c .maxSpans
+        → s .rows + (k + k′) ≤ c .rows → s .spans + (m + m′) ≤ c .spans
         → (b : B) × (andThen (r s) f ≡ ok b (after (length (bs ++ bs′)) (k + k′) (m + m′) s)) × Q b
     unfolding after
     bind-run g h s t e hr hs =
@@ -105,13 +105,13 @@ module _ {c : Capacities} where
   unfolding byte firstByte
   gives-byte b = record { run = λ s t e hr hs. (b, ap (λ (l : List ℕ). firstByte l s) e ∙ ap (ok b) (sym (after-bytes 1 s)), refl) }
 
-  pub gives-row : Gives c (newRow (c .maxRows)) [] 1 0 (λ u. Unit {0})
+  pub gives-row : Gives c (newRow (c .rows)) [] 1 0 (λ u. Unit {0})
   unfolding newRow must andThen
-  gives-row = record { run = λ s t e hr hs. (tt, rw (lt-ltb (s .rows) (c .maxRows) (omega arith)) (ap (ok tt) (sym (after-row s))), tt) }
+  gives-row = record { run = λ s t e hr hs. (tt, rw (lt-ltb (s .rows) (c .rows) (omega arith)) (ap (ok tt) (sym (after-row s))), tt) }
 
-  pub gives-spans : (n : ℕ) → Gives c (newSpans (c .maxSpans) n) [] 0 n (λ u. Unit {0})
+  pub gives-spans : (n : ℕ) → Gives c (newSpans (c .spans) n) [] 0 n (λ u. Unit {0})
   unfolding newSpans must andThen
-  gives-spans n = record { run = λ s t e hr hs. (tt, rw (le-leb (s .spans + n) (c .maxSpans) hs) (ap (ok tt) (sym (after-spans n s))), tt) }
+  gives-spans n = record { run = λ s t e hr hs. (tt, rw (le-leb (s .spans + n) (c .spans) hs) (ap (ok tt) (sym (after-spans n s))), tt) }
 
   pub gives-body : (bs : List ℕ) → Gives c (body (length bs)) bs 0 0 (λ l. l .bytes ≡ bs)
   unfolding body must andThen

@@ -30,7 +30,8 @@ use Rattle.payload.specs.Laws.Varint.{gives-varint}
 use Rattle.payload.specs.Names.{isListed}
 use Rattle.payload.specs.Numbers.{varint}
 use Rattle.payload.specs.Reader.{Part, Result, State, _>>=_, _>>_, here, must, ok, refused, start}
-use Rattle.payload.specs.Reading.{Capacities, Payload, readPayload, readPool, readString, readStrings}
+use Rattle.payload.specs.Reading.{Payload, readPayload, readPool, readString, readStrings}
+use Rattle.payload.specs.declared.Capacities.{Capacities}
 use Rattle.payload.specs.Rows.{itemsSpans, spanTable}
 use Rattle.payload.specs.Sound.{Tables, isNil, scriptOf, spansOf}
 use Rattle.payload.specs.Spans.{Span, smallSpans}
@@ -79,9 +80,9 @@ module _ (c : Capacities) (small : Small c) (listed : List ℕ → Bool) (p : Li
       (g .0, after (length (writing s)) (size (single (s .outer))) (spanCount (single (s .outer))) (start p), g .1, rw l (drop-length p), zero-add (length (writing s)) ∙ l, g .2)
 
   -- the pool's count is the writing's
-  pool-fits : (s : Script (List ℕ)) (u : Payload) (z : State) → writing s ≡ p → length p ≤ sizeLimit → readPayload c listed (start p) ≡ ok u z → length (poolOf s) ≤ c .maxStrings
+  pool-fits : (s : Script (List ℕ)) (u : Payload) (z : State) → writing s ≡ p → length p ≤ sizeLimit → readPayload c listed (start p) ≡ ok u z → length (poolOf s) ≤ c .strings
   unfolding readPayload readPool _>>=_
-  pool-fits s u z w h e = let x = invert (readPool (c .maxStrings) (start p)) _ u z e in go (x .0) (x .1) (x .2)
+  pool-fits s u z w h e = let x = invert (readPool (c .strings) (start p)) _ u z e in go (x .0) (x .1) (x .2)
     where
       N : ℕ
       N = length (poolOf s)
@@ -100,10 +101,10 @@ module _ (c : Capacities) (small : Small c) (listed : List ℕ → Bool) (p : Li
       counted n s₀ q = let g = gives-varint {c = c} N small-N .run (start p) more begins (omega arith) (omega arith) in
           let same-n : n ≡ g .0 = cc (g .1) in same-n ∙ g .2
 
-      go : (ls : List Part) (s₁ : State) → readPool (c .maxStrings) (start p) ≡ ok ls s₁ → N ≤ c .maxStrings
+      go : (ls : List Part) (s₁ : State) → readPool (c .strings) (start p) ≡ ok ls s₁ → N ≤ c .strings
       go ls s₁ x = let y = invert (varint (start p)) _ ls s₁ x in
           let k = counted (y .0) (y .1) (y .2) in
-          let f = strings-few (c .maxStrings) (y .0) 0 (omega arith) (y .1) ls s₁ (y .3) in omega arith
+          let f = strings-few (c .strings) (y .0) 0 (omega arith) (y .1) ls s₁ (y .3) in omega arith
 
 ---- what a passing check has
 
@@ -227,10 +228,10 @@ module _ (c : Capacities) (small : Small c) (names p : List ℕ) (bytes : Bytes 
             g .1,
           )
         where
-          rows-fit′ : (u : Payload) → size (single (u .script .outer)) ≤ c .maxRows → size (single (forgetScript (u .script) .outer)) ≤ c .maxRows
+          rows-fit′ : (u : Payload) → size (single (u .script .outer)) ≤ c .rows → size (single (forgetScript (u .script) .outer)) ≤ c .rows
           rows-fit′ u h = rw (← single-bytes (u .script .outer), size-forget (single (u .script .outer))) h
 
-          starts-fit′ : (u : Payload) → startCount (forgetLine (u .script .line)) ≤ c .maxStarts → startCount (forgetScript (u .script) .line) ≤ c .maxStarts
+          starts-fit′ : (u : Payload) → startCount (forgetLine (u .script .line)) ≤ c .starts → startCount (forgetScript (u .script) .line) ≤ c .starts
           starts-fit′ u h = h
 
   house-true : (u : Payload) (z : State) (s : Script (List ℕ)) → z .rest ≡ [] → isOk (scriptOf (tablesOf p (u .script))) ≡ true → forgetScript (u .script) ≡ s → Named s → writing s ≡ p → houseWritten p u z ≡ true
@@ -278,7 +279,7 @@ any-trees (node t is ks ts) = and-both (any-items is) (and-both (any-trees ks) (
 
 -- room for whatever a writing within the size limit holds
 abbrev most : Capacities
-most = record { maxRows = 1048576; maxSpans = 16777216; maxStrings = 16777216; maxStarts = 1048576 }
+most = record { rows = 1048576; spans = 16777216; strings = 16777216; starts = 1048576 }
 
 small-most : Small most
 small-most = record { small-rows = omega arith; small-spans = omega arith; small-strings = omega arith; small-starts = omega arith }

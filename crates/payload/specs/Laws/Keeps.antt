@@ -18,7 +18,7 @@ use Rattle.payload.specs.Choice.{if_then_else_}
 use Rattle.payload.specs.Laws.ScanWritten.{InStore}
 use Rattle.payload.specs.Numbers.{afterVarint, varint}
 use Rattle.payload.specs.Reader.{Part, Reader, Result, State, _>>=_, _>>_, advanced, andThen, body, byte, firstByte, here, must, newRow, newSpans, ok, pure, refused, withRow, withSpans}
-use Rattle.payload.specs.Reading.{Capacities}
+use Rattle.payload.specs.declared.Capacities.{Capacities}
 
 pub not-ok : {A : Type 0} {C : Type 0} (n q : ℕ) (a : A) (s : State) → _≡_ {A = Result A} (refused n q) (ok a s) → C
 not-ok n q a s e = let z : _≡_ {A = ℕ} 0 1 = cc in absurd (omega arith)
@@ -33,8 +33,8 @@ module _ (c : Capacities) (p : List ℕ) where
   pub record Inv (s : State) : Type 0 where
     pub inv-rest : s .rest ≡ drop (s .place) p
     pub inv-place : s .place ≤ length p
-    pub inv-rows : s .rows ≤ c .maxRows
-    pub inv-spans : s .spans ≤ c .maxSpans
+    pub inv-rows : s .rows ≤ c .rows
+    pub inv-spans : s .spans ≤ c .spans
 
   pub record Step (s s′ : State) (Q : ℕ → ℕ → Type 0) : Type 0 where
     pub k : ℕ
@@ -161,25 +161,25 @@ module _ (c : Capacities) (p : List ℕ) where
   tested true n q s f a s′ e = (refl, e)
   tested false n q s f a s′ e = not-ok n q a s′ e
 
-  pub keeps-row : Keeps (newRow (c .maxRows)) (λ a k m. (k ≡ 1) × (m ≡ 0))
+  pub keeps-row : Keeps (newRow (c .rows)) (λ a k m. (k ≡ 1) × (m ≡ 0))
   unfolding newRow
-  keeps-row = record { run = λ s b s′ i e. go s b s′ i (tested (ltb (s .rows) (c .maxRows)) 22 (s .place) s _ b s′ e) }
+  keeps-row = record { run = λ s b s′ i e. go s b s′ i (tested (ltb (s .rows) (c .rows)) 22 (s .place) s _ b s′ e) }
     where
-      go : (s : State) (b : Unit {0}) (s′ : State) → Inv s → (ltb (s .rows) (c .maxRows) ≡ true) × (_≡_ {A = Result (Unit {0})} (ok tt (withRow s)) (ok b s′)) → Step s s′ (λ k m. (k ≡ 1) × (m ≡ 0))
+      go : (s : State) (b : Unit {0}) (s′ : State) → Inv s → (ltb (s .rows) (c .rows) ≡ true) × (_≡_ {A = Result (Unit {0})} (ok tt (withRow s)) (ok b s′)) → Step s s′ (λ k m. (k ≡ 1) × (m ≡ 0))
       go s b s′ i e = step-cast (λ a k m. (k ≡ 1) × (m ≡ 0)) s tt b _ s′ (e .1) (record {
         k = 1;
         m = 0;
-        inv = record { inv-rest = i .inv-rest; inv-place = i .inv-place; inv-rows = omega (arith, ltb-true (s .rows) (c .maxRows) (e .0)); inv-spans = i .inv-spans };
+        inv = record { inv-rest = i .inv-rest; inv-place = i .inv-place; inv-rows = omega (arith, ltb-true (s .rows) (c .rows) (e .0)); inv-spans = i .inv-spans };
         by-rows = omega arith;
         by-spans = omega arith;
         holds = (refl, refl);
       })
 
-  pub keeps-spans : (n : ℕ) → Keeps (newSpans (c .maxSpans) n) (λ a k m. (k ≡ 0) × (m ≡ n))
+  pub keeps-spans : (n : ℕ) → Keeps (newSpans (c .spans) n) (λ a k m. (k ≡ 0) × (m ≡ n))
   unfolding newSpans
-  keeps-spans n = record { run = λ s b s′ i e. go s b s′ i (tested (leb (s .spans + n) (c .maxSpans)) 23 (s .place) s _ b s′ e) }
+  keeps-spans n = record { run = λ s b s′ i e. go s b s′ i (tested (leb (s .spans + n) (c .spans)) 23 (s .place) s _ b s′ e) }
     where
-      go : (s : State) (b : Unit {0}) (s′ : State) → Inv s → (leb (s .spans + n) (c .maxSpans) ≡ true) × (_≡_ {A = Result (Unit {0})} (ok tt (withSpans n s)) (ok b s′)) → Step s s′ (λ k m. (k ≡ 0) × (m ≡ n))
+      go : (s : State) (b : Unit {0}) (s′ : State) → Inv s → (leb (s .spans + n) (c .spans) ≡ true) × (_≡_ {A = Result (Unit {0})} (ok tt (withSpans n s)) (ok b s′)) → Step s s′ (λ k m. (k ≡ 0) × (m ≡ n))
       go s b s′ i e = step-cast (λ a k m. (k ≡ 0) × (m ≡ n)) s tt b _ s′ (e .1) (record {
         k = 0;
         m = n;

@@ -22,7 +22,8 @@ use Rattle.payload.specs.Laws.ScanWritten.{InItem, InItems, InStore, InT
 use Rattle.payload.specs.Laws.Takes.{closure-rule, put-keys, put-pairs, put-tags, sameKind-self}
 use Rattle.payload.specs.Numbers.{NumberKind, bool, char, cutTested, cutTo, cutToSigned, f32, f64, fitsKind, fitsSigned, handle, i16, i32, i64, i8, isScalar, readFloat, readNumber, u16, u32, u64, u8}
 use Rattle.payload.specs.Reader.{Part, Reader}
-use Rattle.payload.specs.Reading.{Capacities, Context, nodeKey, readChunk, readItem, readItems, readKeys, readKids, readMany, readOne, readPairs, readPoolIndex, readShape, readUntagged, readValue, testKey}
+use Rattle.payload.specs.Reading.{Context, nodeKey, readChunk, readItem, readItems, readKeys, readKids, readMany, readOne, readPairs, readPoolIndex, readShape, readUntagged, readValue, testKey}
+use Rattle.payload.specs.declared.Capacities.{Capacities}
 use Rattle.payload.specs.Scan.{newKey}
 use Rattle.payload.specs.Shapes.{ItemKind, Kids, Shape, keys, noValue, oneValue, pairs, shape, values, withChunk, withFields, withKids, withTemplate}
 use Rattle.payload.specs.Spans.{Code, Run, expand, readCode, readPosition, readRuns, total}
@@ -135,7 +136,7 @@ module _ (c : Capacities) (p : List ℕ) where
     code-stands : InStore p (x .part)
     code-each : length (x .spans) ≡ length (x .part .bytes)
 
-  kept-code : K (readCode (c .maxSpans)) CodeIs
+  kept-code : K (readCode (c .spans)) CodeIs
   unfolding readCode
   kept-code = keeps-free c p (keeps-varint c p) (λ n w. keeps-free c p (keeps-body c p n) (λ l z. keeps-then c p (keeps-spans c p n) (λ u k m y.
       keeps-free c p (keeps-varint c p) (λ j w. keeps-free c p (kept-runs j (pos 0) (pos 0)) (λ rs w. keeps-at c p (λ q. keeps-check c p _ 7 q _ (λ e.

@@ -16,16 +16,17 @@ use Rattle.payload.specs.Laws.Moved.{still}
 use Rattle.payload.specs.Moved.{movedBy}
 use Rattle.payload.specs.Names.{isListed}
 use Rattle.payload.specs.Reader.{Result, State, refused, start}
-use Rattle.payload.specs.Reading.{Capacities, Payload, readPayload}
+use Rattle.payload.specs.Reading.{Payload, readPayload}
+use Rattle.payload.specs.declared.Capacities.{Capacities}
 use Rattle.payload.specs.Rows.{rowWidth}
 use Rattle.payload.specs.Tables.{capacitiesOf, reading, sizeLimit}
 
 -- d has at least the room of c
 pub record Larger (c d : Capacities) : Type 0 where
-  pub more-rows : c .maxRows ≤ d .maxRows
-  pub more-spans : c .maxSpans ≤ d .maxSpans
-  pub more-strings : c .maxStrings ≤ d .maxStrings
-  pub more-starts : c .maxStarts ≤ d .maxStarts
+  pub more-rows : c .rows ≤ d .rows
+  pub more-spans : c .spans ≤ d .spans
+  pub more-strings : c .strings ≤ d .strings
+  pub more-starts : c .starts ≤ d .starts
 
 -- no refusal from 21 to 24
 pub record HasRoom (x : Result Payload) : Type 0 where

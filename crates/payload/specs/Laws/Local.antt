@@ -18,7 +18,8 @@ use Rattle.payload.specs.Laws.Keeps.{invert, not-ok}
 use Rattle.payload.specs.Moved.{withRest}
 use Rattle.payload.specs.Numbers.{afterVarint, varint}
 use Rattle.payload.specs.Reader.{Part, Reader, Result, State, _>>=_, advanced, andThen, body, byte, firstByte, here, must, newRow, newSpans, ok, pure, start, withRow, withSpans}
-use Rattle.payload.specs.Reading.{Capacities, Payload, readPayload}
+use Rattle.payload.specs.Reading.{Payload, readPayload}
+use Rattle.payload.specs.declared.Capacities.{Capacities}
 
 -- what a run from s to s′ took, and the same run with anything after it
 pub record Took {A : Type 0} (r : Reader A) (s : State) (a : A) (s′ : State) : Type 0 where

@@ -14,20 +14,21 @@ use Rattle.payload.specs.Laws.Further.{Like, alike, equal, freed, furthe
 use Rattle.payload.specs.Laws.Keeps.{not-ok}
 use Rattle.payload.specs.Moved.{movedBy, movedItem, movedItems, movedLine, movedPart, movedParts, movedResult, movedScript, movedState, movedTrees, startAt}
 use Rattle.payload.specs.Reader.{Part, Result, State, ok, refused, start}
-use Rattle.payload.specs.Reading.{Capacities, Payload, readPayload}
+use Rattle.payload.specs.Reading.{Payload, readPayload}
+use Rattle.payload.specs.declared.Capacities.{Capacities}
 use Rattle.payload.specs.Trees.{Item, LineIndex, Script, Trees, code, forgetLine, forgetNode, forgetScript, forgetTrees, nativeName, nil, node, number, recordName, string}
 
 ---- as much room left: no refusal is free
 
 -- d has j rows and k spans more than c
 pub record RoomAfter (j k : ℕ) (c d : Capacities) : Type 0 where
-  pub rows-after : d .maxRows ≡ c .maxRows + j
-  pub spans-after : d .maxSpans ≡ c .maxSpans + k
-  pub same-strings : d .maxStrings ≡ c .maxStrings
-  pub same-starts : d .maxStarts ≡ c .maxStarts
+  pub rows-after : d .rows ≡ c .rows + j
+  pub spans-after : d .spans ≡ c .spans + k
+  pub same-strings : d .strings ≡ c .strings
+  pub same-starts : d .starts ≡ c .starts
 
 pub no-more : (c : Capacities) → RoomAfter 0 0 c c
-no-more c = record { rows-after = sym (add-zero (c .maxRows)); spans-after = sym (add-zero (c .maxSpans)); same-strings = refl; same-starts = refl }
+no-more c = record { rows-after = sym (add-zero (c .rows)); spans-after = sym (add-zero (c .spans)); same-strings = refl; same-starts = refl }
 
 abbrev Never : ℕ → Type 0
 Never n = n < 0

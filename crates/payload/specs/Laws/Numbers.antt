@@ -22,7 +22,7 @@ use Rattle.payload.specs.Laws.Gives.{Gives, gives-as, gives-bind, gives-
 use Rattle.payload.specs.Laws.Pool.{and-right}
 use Rattle.payload.specs.Laws.Varint.{gives-varint}
 use Rattle.payload.specs.Numbers.{NumberKind, bool, char, cutSigned, cutTested, cutTo, cutToSigned, f32, f64, fitsKind, fitsSigned, handle, i16, i32, i64, i8, isScalar, readFloat, readNumber, u16, u32, u64, u8, writeNumber, zigzagWord}
-use Rattle.payload.specs.Reading.{Capacities}
+use Rattle.payload.specs.declared.Capacities.{Capacities}
 
 or-cases : {C : Type 0} (a b : Bool) → (a or b) ≡ true → (a ≡ true → C) → (b ≡ true → C) → C
 or-cases true b e f g = f refl

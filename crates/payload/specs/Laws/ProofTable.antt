@@ -17,7 +17,8 @@ use Rattle.payload.specs.Names.{isListed, namesOf, onto}
 use Rattle.payload.specs.Numbers.{afterVarint, char, cutTested, cutTo, cutToSigned, fitsKind, fitsSigned, handle, isScalar, readFloat, readNumber, varint, writeNumber}
 use Rattle.payload.specs.Pool.{indexOf, interned, isIn}
 use Rattle.payload.specs.Reader.{Part, Result, _>>=_, _>>_, andThen, body, byte, firstByte, here, must, newRow, newSpans, ok, pure, refused, start}
-use Rattle.payload.specs.Reading.{Capacities, Context, Payload, nodeKey, readChunk, readFlagged, readItem, readItems, readKeys, readKids, readLineIndex, readMany, readOne, readPairs, readPayload, readPool, readPoolIndex, readShape, readStarts, readString, readStrings, readUntagged, readValue, testKey}
+use Rattle.payload.specs.Reading.{Context, Payload, nodeKey, readChunk, readFlagged, readItem, readItems, readKeys, readKids, readLineIndex, readMany, readOne, readPairs, readPayload, readPool, readPoolIndex, readShape, readStarts, readString, readStrings, readUntagged, readValue, testKey}
+use Rattle.payload.specs.declared.Capacities.{Capacities}
 use Rattle.payload.specs.Rows.{countWords, itemWords, itemsSpans, itemsWords, kidsCountWords, kindWidth, kindsWidth, partWords, rootCount, rowTable, rowWords, spanTable, unusedWords}
 use Rattle.payload.specs.Scan.{endRow, finishRow, firstWord, isFunction, nextWord, rowMust, scanCount, scanItem, scanItems, scanKeys, scanKids, scanOuter, scanPairs, scanPart, scanShape, scanString, scanUntagged, scanValue, scanWithKids, zeroWords}
 use Rattle.payload.specs.Shapes.{isKeyTag, kindsOf, shape, shapes}
@@ -30,7 +31,7 @@ use Rattle.payload.specs.Writing.{concat, gathered, itemStrings, itemsSt
 
 -- tables of 512 rows, 1,024 spans, 256 strings and 512 starts
 abbrev pub tableSizes : Capacities
-tableSizes = record { maxRows = 512; maxSpans = 1024; maxStrings = 256; maxStarts = 512 }
+tableSizes = record { rows = 512; spans = 1024; strings = 256; starts = 512 }
 
 abbrev hi : Context
 hi = record { capacities = tableSizes; pool = record { offset = 2; bytes = 0x48 ∷ 0x69 ∷ [] } ∷ []; listed = isListed [] }

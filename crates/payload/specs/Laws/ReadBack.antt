@@ -25,7 +25,8 @@ use Rattle.payload.specs.Laws.Spans.{gives-position, word-back}
 use Rattle.payload.specs.Laws.Varint.{gives-varint}
 use Rattle.payload.specs.Pool.{interned, isIn}
 use Rattle.payload.specs.Reader.{Part, _>>=_, pure}
-use Rattle.payload.specs.Reading.{Capacities, Context, Payload, readChunk, readFlagged, readLineIndex, readPayload, readPool, readStarts, readString, readStrings, readValue}
+use Rattle.payload.specs.Reading.{Context, Payload, readChunk, readFlagged, readLineIndex, readPayload, readPool, readStarts, readString, readStrings, readValue}
+use Rattle.payload.specs.declared.Capacities.{Capacities}
 use Rattle.payload.specs.Sound.{allStarts}
 use Rattle.payload.specs.Trees.{Item, LineIndex, Node, Script, Trees, code, forgetLine, forgetNode, forgetScript, nativeName, nil, node, nodeOf, number, recordName, single, size, spanCount, startCount, string}
 use Rattle.payload.specs.Write.{itemNamed}
@@ -223,14 +224,14 @@ module _ (c : Capacities) (small : Small c) (listed : List ℕ → Bool) (s : Sc
         (reads-value env (poolOf s) pool-is few (small .small-rows) (small .small-spans) 32) (s .outer .tag) (s .outer .items) (s .outer .kids)
         (eq-eqb _ _ (sound .outer-is-chunk)) (sound .obeys) tree-readable) (simp append-nil) (omega arith) (omega arith)
 
-    gives-line : (x : Option (LineIndex (List ℕ))) → lineRule x ≡ true → ((b : List ℕ) → isIn b (lineStrings x) ≡ true → isIn b (poolOf s) ≡ true) → startCount x ≤ c .maxStarts
+    gives-line : (x : Option (LineIndex (List ℕ))) → lineRule x ≡ true → ((b : List ℕ) → isIn b (lineStrings x) ≡ true → isIn b (poolOf s) ≡ true) → startCount x ≤ c .starts
         → Gives c (readLineIndex env) (writeLineIndex (poolOf s) x) 0 0 (λ y. forgetLine y ≡ x)
     unfolding readLineIndex readFlagged writeLineIndex lineRule lineStrings startCount isIn forgetLine
     gives-line none r f h = gives-at (λ p. gives-is _ (gives-byte 0) (gives-check _ 13 p _ refl (gives-pure none (λ y. forgetLine y ≡ none) refl)))
     gives-line (some x) r f h = gives-at (λ p. gives-is _ (gives-byte 1) (gives-check _ 13 p _ refl (gives-as
         (gives-bind (gives-index env (poolOf s) pool-is few (small .small-rows) (small .small-spans) (x .name) (f (x .name) (rw (same-refl (x .name))))) (λ a z.
         gives-is _ (gives-varint (length (x .starts)) (omega (arith, small .small-starts)))
-        (gives-is _ (gives-starts (c .maxStarts) (x .starts) 0 0 (omega arith) (omega arith) (and-right _ _ r))
+        (gives-is _ (gives-starts (c .starts) (x .starts) 0 0 (omega arith) (omega arith) (and-right _ _ r))
         (gives-pure _ (λ y. forgetLine y ≡ some x) (ap (λ (b : List ℕ). some (record { name = b; starts = x .starts })) z)))))
         (simp append-nil) refl refl)))
 
@@ -243,8 +244,8 @@ module _ (c : Capacities) (small : Small c) (listed : List ℕ → Bool) (s : Sc
         gives-pure _ (λ u. forgetScript (u .script) ≡ s) (ap₂ (λ (n : Node (List ℕ)) (m : Option (LineIndex (List ℕ))). record { outer = n; line = m }) z y))))
         (simp append-nil) (omega arith) (omega arith)
 
-  pub pool-back : Gives c (readPool (c .maxStrings)) (uleb128 (length (poolOf s)) ++ writeStrings (poolOf s)) 0 0 (λ a. map (λ (x : Part). x .bytes) a ≡ poolOf s)
-  pool-back = gives-pool (c .maxStrings) (poolOf s) (fits .fit-strings) (omega (arith, fits .fit-strings, small .small-strings)) pool-utf8 (short-strings (poolOf s) pool-short)
+  pub pool-back : Gives c (readPool (c .strings)) (uleb128 (length (poolOf s)) ++ writeStrings (poolOf s)) 0 0 (λ a. map (λ (x : Part). x .bytes) a ≡ poolOf s)
+  pool-back = gives-pool (c .strings) (poolOf s) (fits .fit-strings) (omega (arith, fits .fit-strings, small .small-strings)) pool-utf8 (short-strings (poolOf s) pool-short)
 
   pub gives-payload : Gives c (readPayload c listed) (writing s) (size (single (s .outer))) (spanCount (single (s .outer))) (λ u. forgetScript (u .script) ≡ s)
   unfolding readPayload writing

@@ -21,7 +21,8 @@ use Rattle.payload.specs.Laws.Rules.{SoundScript, isTag, itemSound, line
 use Rattle.payload.specs.Laws.ScanWritten.{InTrees}
 use Rattle.payload.specs.Laws.SoundTables.{InLine}
 use Rattle.payload.specs.Reader.{Part, Reader, State, ok, start}
-use Rattle.payload.specs.Reading.{Capacities, Payload, readFlagged, readLineIndex, readPayload, readPool, readStarts, readString, readStrings}
+use Rattle.payload.specs.Reading.{Payload, readFlagged, readLineIndex, readPayload, readPool, readStarts, readString, readStrings}
+use Rattle.payload.specs.declared.Capacities.{Capacities}
 use Rattle.payload.specs.Sound.{allStarts}
 use Rattle.payload.specs.Spans.{smallSpans}
 use Rattle.payload.specs.Trees.{Item, LineIndex, code, forgetLine, forgetNode, forgetScript, forgetTrees, nativeName, number, recordName, single, size, spanCount, startCount, string}
@@ -45,11 +46,11 @@ pub record ReadIs (c : Capacities) (p : List ℕ) (listed : List ℕ → Bool) (
   pub items : allItems itemRead (single (forgetScript (u .script) .outer)) ≡ true
   pub line : lineRule (forgetScript (u .script) .line) ≡ true
   pub rows-are : s .rows ≡ size (single (u .script .outer))
-  pub rows-fit : size (single (u .script .outer)) ≤ c .maxRows
+  pub rows-fit : size (single (u .script .outer)) ≤ c .rows
   pub spans-are : s .spans ≡ spanCount (single (forgetScript (u .script) .outer))
-  pub spans-fit : spanCount (single (forgetScript (u .script) .outer)) ≤ c .maxSpans
-  pub starts-fit : startCount (forgetLine (u .script .line)) ≤ c .maxStarts
-  pub strings-fit : length (u .pool) ≤ c .maxStrings
+  pub spans-fit : spanCount (single (forgetScript (u .script) .outer)) ≤ c .spans
+  pub starts-fit : startCount (forgetLine (u .script .line)) ≤ c .starts
+  pub strings-fit : length (u .pool) ≤ c .strings
   pub place-is : s .rest ≡ drop (s .place) p
   pub place-in : s .place ≤ length p
 
@@ -74,9 +75,9 @@ module _ (c : Capacities) (p : List ℕ) where
   kept-strings most (suc n) k h = keeps-at c p (λ q. keeps-check c p _ 21 q _ (λ e. keeps-free c p kept-string (λ b z.
       keeps-free c p (kept-strings most n (suc k) (ltb-true k most e)) (λ bs y. keeps-value c p (b ∷ bs) (StringsAre most k) ((z, y .0), omega (arith, y .1))))))
 
-  kept-pool : K (readPool (c .maxStrings)) (Plain c p (StringsAre (c .maxStrings) 0))
+  kept-pool : K (readPool (c .strings)) (Plain c p (StringsAre (c .strings) 0))
   unfolding readPool
-  kept-pool = keeps-free c p (keeps-varint c p) (λ n w. kept-strings (c .maxStrings) n 0 (omega arith))
+  kept-pool = keeps-free c p (keeps-varint c p) (λ n w. kept-strings (c .strings) n 0 (omega arith))
 
   ---- the line index
 
@@ -94,13 +95,13 @@ module _ (c : Capacities) (p : List ℕ) where
   record LineIs (x : Option (LineIndex Part)) : Type 0 where
     line-in : InLine p x
     line-rule : lineRule (forgetLine x) ≡ true
-    line-starts : startCount (forgetLine x) ≤ c .maxStarts
+    line-starts : startCount (forgetLine x) ≤ c .starts
 
   module _ (listed : List ℕ → Bool) (small : Bytes p) where
     kept-flagged : (pool : List Part) → TextsIn p pool → (f : ℕ) → K (readFlagged (record { capacities = c; pool = pool; listed = listed }) f) (Plain c p LineIs)
     unfolding readFlagged InLine lineRule startCount forgetLine
     kept-flagged pool h zero = keeps-value c p none LineIs (record { line-in = tt; line-rule = refl; line-starts = omega arith })
-    kept-flagged pool h (suc f) = keeps-free c p (kept-index c p listed small pool h) (λ l z. keeps-free c p (keeps-varint c p) (λ n w. keeps-free c p (kept-starts (c .maxStarts) n 0 (pos 0) (omega arith)) (λ ss y.
+    kept-flagged pool h (suc f) = keeps-free c p (kept-index c p listed small pool h) (λ l z. keeps-free c p (keeps-varint c p) (λ n w. keeps-free c p (kept-starts (c .starts) n 0 (pos 0) (omega arith)) (λ ss y.
         keeps-value c p (some (record { name = l; starts = ss })) LineIs (record { line-in = z .text-stands; line-rule = and-both (z .text-utf8) (y .0); line-starts = omega (arith, y .1) }))))
 
     kept-line : (pool : List Part) → TextsIn p pool → K (readLineIndex (record { capacities = c; pool = pool; listed = listed })) (Plain c p LineIs)
@@ -112,7 +113,7 @@ module _ (c : Capacities) (p : List ℕ) where
     record PayloadIs (u : Payload) (k m : ℕ) : Type 0 where
       outer-is : NodeIs c p listed (isTag 32) 32 (u .script .outer) k m
       line-is : LineIs (u .script .line)
-      pool-is : StringsAre (c .maxStrings) 0 (u .pool)
+      pool-is : StringsAre (c .strings) 0 (u .pool)
 
     kept-payload : K (readPayload c listed) PayloadIs
     unfolding readPayload

@@ -19,7 +19,8 @@ use Rattle.payload.specs.Laws.Varint.{gives-varint}
 use Rattle.payload.specs.Numbers.{NumberKind-discrete, fitsKind, varint}
 use Rattle.payload.specs.Pool.{indexOf, isIn}
 use Rattle.payload.specs.Reader.{Part, Reader, _>>=_, pure}
-use Rattle.payload.specs.Reading.{Capacities, Context, nodeKey, readItem, readItems, readKeys, readKids, readMany, readOne, readPairs, readPoolIndex, readShape, readUntagged, readValue, testKey}
+use Rattle.payload.specs.Reading.{Context, nodeKey, readItem, readItems, readKeys, readKids, readMany, readOne, readPairs, readPoolIndex, readShape, readUntagged, readValue, testKey}
+use Rattle.payload.specs.declared.Capacities.{Capacities}
 use Rattle.payload.specs.Shapes.{ItemKind, ItemKind-discrete, Kids, Shape, isKeyTag, keys, noValue, oneValue, pairs, shape, values, withChunk, withFields, withKids, withTemplate}
 use Rattle.payload.specs.Spans.{smallSpans}
 use Rattle.payload.specs.Trees.{Item, Node, Trees, code, cons, forgetItem, forgetItems, forgetNode, forgetTrees, keyOf, kindOf, nativeName, nil, node, nodeOf, number, recordName, size, spanCount, spanItem, spanItems, string}
@@ -69,7 +70,7 @@ unfolding forgetNode nodeOf
 node-tag f n is ks z = ap (λ (n : Node (List ℕ)). n .tag) z
 
 module _ (e : Context) (l : List (List ℕ)) (pool-is : map (λ (x : Part). x .bytes) (e .pool) ≡ l) (few : length l ≤ 2 ^ 32)
-    (rows-fit : e .capacities .maxRows < 2 ^ 64) (spans-fit : e .capacities .maxSpans < 2 ^ 64) where
+    (rows-fit : e .capacities .rows < 2 ^ 64) (spans-fit : e .capacities .spans < 2 ^ 64) where
   abbrev c : Capacities
   c = e .capacities
 
@@ -228,7 +229,7 @@ module _ (e : Context) (l : List (List ℕ)) (pool-is : map (λ (x : Part). x .b
       (λ u z. gives-times-pairs d r R (nodeKey u ∷ seen) ts (value₂ t′ is′ ks′ _ (value₂ t is ks _ q)) (rw z at (pair₃ seen t is ks t′ is′ ks′ ts w))
       (rest-shaped d t′ is′ ks′ ts (rest-shaped d t is ks _ s)) (rest-fine t′ is′ ks′ ts (rest-fine t is ks _ h))))
 
-  gives-count : (ts : Trees (List ℕ)) → size ts ≤ c .maxRows → Gives c varint (uleb128 (length (writeTrees l ts))) 0 0 (λ n. n ≡ length (writeTrees l ts))
+  gives-count : (ts : Trees (List ℕ)) → size ts ≤ c .rows → Gives c varint (uleb128 (length (writeTrees l ts))) 0 0 (λ n. n ≡ length (writeTrees l ts))
   gives-count ts h = gives-varint (length (writeTrees l ts)) (let q = count-le l ts in omega arith)
 
   no-roots : {C : Type 0} (n : ℕ) → eqb (suc n) 0 ≡ true → C

@@ -12,7 +12,7 @@ use Rattle.payload.specs.Demand3.{allItems}
 use Rattle.payload.specs.Numbers.{NumberKind-discrete, fitsKind}
 use Rattle.payload.specs.Pool.{isIn}
 use Rattle.payload.specs.Reader.{Part}
-use Rattle.payload.specs.Reading.{Capacities}
+use Rattle.payload.specs.declared.Capacities.{Capacities}
 use Rattle.payload.specs.Shapes.{ItemKind, ItemKind-discrete, Kids, Shape, isKeyTag, keys, noValue, oneValue, pairs, shape, values, withChunk, withFields, withKids, withTemplate}
 use Rattle.payload.specs.Sound.{allStarts}
 use Rattle.payload.specs.Spans.{smallSpans}
@@ -110,10 +110,10 @@ Named s = allItems (itemNamed (poolOf s)) (single (s .outer)) ≡ true
 
 -- capacities are below these
 pub record Small (c : Capacities) : Type 0 where
-  pub small-rows : c .maxRows < 2 ^ 64
-  pub small-spans : c .maxSpans < 2 ^ 64
-  pub small-strings : c .maxStrings ≤ 2 ^ 32
-  pub small-starts : c .maxStarts < 2 ^ 64
+  pub small-rows : c .rows < 2 ^ 64
+  pub small-spans : c .spans < 2 ^ 64
+  pub small-strings : c .strings ≤ 2 ^ 32
+  pub small-starts : c .starts < 2 ^ 64
 
 -- trees without their spans, which the row table does not hold
 unfoldable pub withoutSpansItem : Item Part → Item Part

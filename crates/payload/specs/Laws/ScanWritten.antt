@@ -15,7 +15,8 @@ use Rattle.payload.specs.Laws.Pool.{and-both, and-left, and-right, false
 use Rattle.payload.specs.Laws.RoundTrip.{sameKind-eq}
 use Rattle.payload.specs.Laws.Rules.{allTags, allValues, distinctKeys, distinctPairs, isTag, isValueTag, itemSound, kidsRule, obeyRules, roots, rowRule, sameKind, sameKinds, withoutSpans, withoutSpansItem, withoutSpansItems}
 use Rattle.payload.specs.Reader.{Part, Reader, _>>_, must, ok, pure}
-use Rattle.payload.specs.Reading.{Capacities, nodeKey, readMany}
+use Rattle.payload.specs.Reading.{nodeKey, readMany}
+use Rattle.payload.specs.declared.Capacities.{Capacities}
 use Rattle.payload.specs.Rows.{countWords, itemWords, itemsWords, kidsCountWords, partWords, rootCount, rowTable, rowWords, unusedWords}
 use Rattle.payload.specs.Scan.{RowScan, Test, anyRow, endRow, finishRow, firstWord, isFunction, newKey, nextWord, rowMust, scanCount, scanItem, scanItems, scanKeys, scanKids, scanOuter, scanPairs, scanPart, scanShape, scanString, scanUntagged, scanValue, scanWithKids, zeroWords}
 use Rattle.payload.specs.Shapes.{ItemKind, Kids, Shape, keys, noValue, oneValue, pairs, shape, values, withChunk, withFields, withKids, withTemplate}

@@ -21,7 +21,7 @@ use Rattle.payload.specs.Laws.Rules.{Root, SoundScript, itemSound, lineR
 use Rattle.payload.specs.Laws.ScanWritten.{InStore, InTrees, kind-bytes, scan-flat}
 use Rattle.payload.specs.Laws.Takes.{itemRowSound, scan-took}
 use Rattle.payload.specs.Reader.{Part, Reader, Result, State, _>>=_, _>>_, andThen, must, ok, pure, start}
-use Rattle.payload.specs.Reading.{Capacities}
+use Rattle.payload.specs.declared.Capacities.{Capacities}
 use Rattle.payload.specs.Rows.{countWords, itemWords, itemsWords, kidsCountWords, kindWidth, kindsWidth, partWords, rootCount, rowTable, rowWidth, rowWords, spanTable, unusedWords}
 use Rattle.payload.specs.Scan.{rowMust, scanOuter}
 use Rattle.payload.specs.Shapes.{ItemKind, Kids, Shape, keys, kindsOf, noValue, oneValue, pairs, shape, shapes, values, withChunk, withFields, withKids, withTemplate}
@@ -383,7 +383,7 @@ module _ (T : Tables) (u : Script Part) (h : Holds T u) (k : SoundScript (forget
   held-scan : scanOuter (T .store) (start (T .rows)) ≡ ok (bareNode (u .outer)) (ended T u)
   held-scan =
       let n = u .outer in
-      let c : Capacities = record { maxRows = size (single n); maxSpans = 0; maxStrings = 0; maxStarts = 0 } in
+      let c : Capacities = record { rows = size (single n); spans = 0; strings = 0; starts = 0 } in
       let g = scan-single c (T .store) n held-tag held-rules held-sound (h .in-trees) .run (start (T .rows)) [] (held-rows ∙ sym (append-nil _)) (omega arith) (omega arith) in
       g .1 ∙ ap₂ ok (g .2) (ap (λ (l : List ℕ). after (length l) (size (single n)) 0 (start (T .rows))) (sym held-rows) ∙ after-all (T .rows) (size (single n)))
 

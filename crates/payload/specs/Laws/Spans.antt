@@ -17,7 +17,7 @@ use Rattle.payload.specs.Laws.Gives.{Gives, gives-as, gives-bind, gives-
 use Rattle.payload.specs.Laws.Pool.{and-both, and-left, and-right}
 use Rattle.payload.specs.Laws.Varint.{gives-varint}
 use Rattle.payload.specs.Reader.{start}
-use Rattle.payload.specs.Reading.{Capacities}
+use Rattle.payload.specs.declared.Capacities.{Capacities}
 use Rattle.payload.specs.Spans.{Run, Span, expand, join, readCode, readPosition, readRuns, runsOf, sameSpan, smallSpans, total, writeCode, writeDelta, writeDeltas, writeRuns}
 
 sameSpan-eq : (a b : Span) → sameSpan a b ≡ true → a ≡ b
@@ -133,7 +133,7 @@ module _ {c : Capacities} where
       (gives-pure _ (λ a. a ≡ r ∷ rs) (rw (word-back (r .span .start) hs, word-back (r .span .end) he))))))) (simp (append-assoc, append-nil)) refl refl
 
   pub gives-code : (b : List ℕ) (ss : List Span) → length ss ≡ length b → length b < 2 ^ 64 → smallSpans ss ≡ true
-      → Gives c (readCode (c .maxSpans)) (writeCode b ss) 0 (length b) (λ a. (a .part .bytes ≡ b) × (a .spans ≡ ss))
+      → Gives c (readCode (c .spans)) (writeCode b ss) 0 (length b) (λ a. (a .part .bytes ≡ b) × (a .spans ≡ ss))
   unfolding readCode writeCode writeRuns
   gives-code b ss e h s =
       gives-as

@@ -10,7 +10,7 @@ use Rattle.varint.specs.declared.Varint.the-variants.{Number}
 use Rattle.payload.specs.Laws.Gives.{Gives, after-bytes}
 use Rattle.payload.specs.Numbers.{afterVarint, varint}
 use Rattle.payload.specs.Reader.{ok}
-use Rattle.payload.specs.Reading.{Capacities}
+use Rattle.payload.specs.declared.Capacities.{Capacities}
 
 module _ {c : Capacities} where
   pub gives-varint : (n : ℕ) → n < 2 ^ 64 → Gives c varint (uleb128 n) 0 0 (λ a. a ≡ n)

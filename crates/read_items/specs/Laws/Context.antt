@@ -7,7 +7,8 @@ use lib.ListN.{drop, getD, length, length-drop, length-take, take}
 use borrow.Author.Tests.{le-ltb, lt-ltb}
 use Rattle.payload.specs.Numbers.{varint}
 use Rattle.payload.specs.Reader.{Part}
-use Rattle.payload.specs.Reading.{Capacities, readPoolIndex}
+use Rattle.payload.specs.Reading.{readPoolIndex}
+use Rattle.payload.specs.declared.Capacities.{Capacities}
 use Rattle.payload.specs.Rows.{partWords}
 use Rattle.payload.specs.Tables.{partsWords}
 use Rattle.read_items.specs.Reads.{read, stopped, Reads}

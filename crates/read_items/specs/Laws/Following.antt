@@ -7,7 +7,8 @@ use borrow.Author.Tests.{eq-eqb, ne-eqb}
 use Rattle.payload.specs.Laws.Keeps.{invert}
 use Rattle.payload.specs.Numbers.{varint}
 use Rattle.payload.specs.Reader.{Part, Reader, Result, State, _>>=_, _>>_, andThen, here, must, ok, pure, refused}
-use Rattle.payload.specs.Reading.{Capacities, Context, nodeKey, readItems, readKeys, readKids, readMany, readOne, readPairs, readShape, testKey}
+use Rattle.payload.specs.Reading.{Context, nodeKey, readItems, readKeys, readKids, readMany, readOne, readPairs, readShape, testKey}
+use Rattle.payload.specs.declared.Capacities.{Capacities}
 use Rattle.payload.specs.Rows.{rootCount, rowWords}
 use Rattle.payload.specs.Shapes.{ItemKind, Shape, kindsOf, noValue, oneValue, values, keys, pairs, shape, withKids, withChunk, withFields, withTemplate}
 use Rattle.payload.specs.Trees.{Item, Node, Trees, cons, nil, nodeOf}

@@ -8,7 +8,8 @@ use lib.ListN.{drop, length, take}
 use Rattle.payload.specs.Names.{isListed}
 use Rattle.payload.specs.Numbers.{NumberKind, varint, readNumber, u64, u16, handle}
 use Rattle.payload.specs.Reader.{Part}
-use Rattle.payload.specs.Reading.{Capacities, Context, readItem, readItems, readPoolIndex}
+use Rattle.payload.specs.Reading.{Context, readItem, readItems, readPoolIndex}
+use Rattle.payload.specs.declared.Capacities.{Capacities}
 use Rattle.payload.specs.Rows.{itemsWords, itemWords, partWords, itemsSpans, countWords, kidsCountWords, kindWidth, kindsWidth, unusedWords}
 use Rattle.payload.specs.Shapes.{ItemKind, Kids, Shape, kindsOf, noValue, oneValue, values, keys, pairs, withKids}
 use Rattle.payload.specs.Trees.{Item, number, string, nativeName, recordName}
@@ -264,4 +265,4 @@ module _ {p names pool : List ℕ} {at : ℕ} {sh : Shape} where
     no-row e g = (rw e at g) .out
 
   pub row-inside : {a b c d count next : ℕ} → RowRead p names pool at sh a b c d count next → next ≤ length p
-  row-inside g = g .is (record { maxRows = 0; maxSpans = 0; maxStrings = 0; maxStarts = 0 }) .inside
+  row-inside g = g .is (record { rows = 0; spans = 0; strings = 0; starts = 0 }) .inside

@@ -14,14 +14,14 @@ use Rattle.payload.specs.Tables.{spanWords}
 use Rattle.payload.specs.Trees.{Item, Node, Trees, cons, nodeOf, single}
 use Rattle.read_values.specs.Told.{RowTold, Told}
 use Rattle.read_values.specs.Did.{View, manyTrees, oneTree, Ran, Did, stateOf}
-use Rattle.read_values.specs.declared.Limits.{Limits}
+use Rattle.payload.specs.declared.Capacities.{Capacities}
 use Rattle.read_values.specs.declared.State.{State}
 use Rattle.read_values.specs.declared.Step.{Step}
 use Rattle.read_values.specs.declared.Step.the-variants.{Done, Refused}
 
 ---- the variant that a match found
 
-module _ {A : Type 0} {view : View A} {limits : Limits} {p a b a′ b′ : List ℕ} {i j : ℕ} {r : Step} {x : Result A} where
+module _ {A : Type 0} {view : View A} {limits : Capacities} {p a b a′ b′ : List ℕ} {i j : ℕ} {r : Step} {x : Result A} where
   pub ran-of : {s : State} → r ≡ Done s → Did view limits p a b a′ b′ i j r x → (t : A) × Ran view limits p a b a′ b′ i j s t x
   ran-of e d = (rw e at d) .out
 
@@ -76,7 +76,7 @@ own-told t is ts h k = (h, k, tt)
 pub two-runs : (a b c : List ℕ) (i k : ℕ) (us ws : List ℕ) → b ≡ put a i us → k ≡ i + length us → c ≡ put b k ws → c ≡ put a i (us ++ ws)
 two-runs a b c i k us ws w z v = v ∙ ap (λ (n : ℕ). put b n ws) z ∙ ap (λ (l : List ℕ). put l (i + length us) ws) w ∙ put-put a i us ws
 
-module _ {limits : Limits} {p : List ℕ} where
+module _ {limits : Capacities} {p : List ℕ} where
   -- a row and spans of its own, then the rows under it
   pub did-node : {a b c a′ b′ c′ : List ℕ} {i j l : ℕ} {r : Step} {x : Result (Trees Part)} (t : ℕ) (is : List (Item Part)) (row us : List ℕ) →
       b ≡ put a (rowWidth * i) row → length row ≡ rowWidth → b′ ≡ put a′ (2 * j) us → 2 * l ≡ 2 * j + length us → us ≡ spanWords (itemsSpans is) →

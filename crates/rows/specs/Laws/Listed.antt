@@ -12,7 +12,8 @@ use Rattle.payload.specs.Choice.{if_then_else_}
 use Rattle.payload.specs.Laws.ReadSound.{read-is}
 use Rattle.payload.specs.Names.{isListed}
 use Rattle.payload.specs.Reader.{Result, ok, refused, start}
-use Rattle.payload.specs.Reading.{Capacities, Payload, readPayload}
+use Rattle.payload.specs.Reading.{Payload, readPayload}
+use Rattle.payload.specs.declared.Capacities.{Capacities}
 use Rattle.payload.specs.Tables.{Leaves, readAnswer, reading, sizeLimit, usedRows}
 use Rattle.payload.specs.declared.Read.{Read}
 use Rattle.payload.specs.declared.Read.the-variants.{Refused}
@@ -21,17 +22,17 @@ use Rattle.listing.specs.Listing.{listedRows, listing, rowLines}
 use Rattle.rows.specs.Listed.{listed, tableReading}
 
 module _ (c : Capacities) (names p : List ℕ) (small : Bytes p) where
-  read-rows : (x : Result Payload) → readPayload c (isListed names) (start p) ≡ x → listedRows (readAnswer x) ≤ c .maxRows
+  read-rows : (x : Result Payload) → readPayload c (isListed names) (start p) ≡ x → listedRows (readAnswer x) ≤ c .rows
   unfolding listedRows readAnswer
   read-rows (ok u s) e = let r = read-is c p (isListed names) small u s e in omega (arith, r .rows-are, r .rows-fit)
   read-rows (refused n q) e = omega arith
 
-  chosen : (b : Bool) → listedRows (readAnswer (if_then_else_ b (refused 16 0) (readPayload c (isListed names) (start p)))) ≤ c .maxRows
+  chosen : (b : Bool) → listedRows (readAnswer (if_then_else_ b (refused 16 0) (readPayload c (isListed names) (start p)))) ≤ c .rows
   unfolding if_then_else_ listedRows readAnswer
   chosen true = omega arith
   chosen false = read-rows _ refl
 
-  pub listed-rows : listedRows (readAnswer (reading c names p)) ≤ c .maxRows
+  pub listed-rows : listedRows (readAnswer (reading c names p)) ≤ c .rows
   unfolding reading
   listed-rows = chosen (ltb sizeLimit (length p))
 

@@ -73,7 +73,7 @@ read-closure-read-values-requires t c κs =
           g .1 .used,
           g .1 .covered,
           (row-of (a .given .1) (at-read-closure-head .read-closure-head .ensures (start .args .names .now) (start .args .pool .now))) .is
-              (capacities (start .args .limits)) .inside,
+              (start .args .limits) .inside,
         ),
         start .pre .1 .1 .0,
       ),
@@ -107,7 +107,7 @@ read-closure-returns-2 t c =
           (readValue (context (args .limits) (args .bytes .now) (args .names .now) (args .pool .now)) (args .left)) 18 (ItemKind.number u16 ∷ [])
           (stateOf (args .bytes .now) (args .state)) (stateOf (args .bytes .now) (mid .given .0 .0)) (g .0) (g .1 .is)
           (sym (first-tag _ _ _ (g .0) (g .1 .wrote) (omega (arith, start .pre .1 .0, g .1 .size, g .1 .used, some-words (g .0)))) ∙ if1 .left),
-      (row-of (a .given .1) (read-closure-head .ensures (args .names .now) (args .pool .now))) .is (capacities (args .limits)) .is _ _,
+      (row-of (a .given .1) (read-closure-head .ensures (args .names .now) (args .pool .now))) .is (args .limits) .is _ _,
     )
     (did-closure 18 ((row-of (a .given .1) (read-closure-head .ensures (args .names .now) (args .pool .now))) .items)
     (18 ∷ (a .given .0 .0) ∷ (a .given .0 .1 .0) ∷ (a .given .0 .1 .1 .0) ∷ (a .given .0 .1 .1 .1 .0) ∷ []) (start .pre .1 .1 .1) (g .1)
@@ -140,7 +140,7 @@ read-closure-returns-3 t c =
             (stateOf (args .bytes .now) (args .state)) (stateOf (args .bytes .now) (mid .given .0 .0)) (g .0) (g .1 .is)
             (sym (first-tag _ _ _ (g .0) (g .1 .wrote) (omega (arith, start .pre .1 .0, g .1 .size, g .1 .used, some-words (g .0)))) ∙ at-if1 .if1 .left),
         (no-row (c .before .n .given .1) (c .before .before .before .read-closure-head .ensures (args .names .now) (args .pool .now)))
-            (capacities (args .limits)) .is _ _,
+            (args .limits) .is _ _,
       );
     }
 

@@ -51,7 +51,7 @@ read-field-read-values-requires t c κs =
           start .pre .1 .0,
           at-write-row .write-row .kept,
           if1 .left,
-          (row-of (a .given .1) (at-read-field-head .read-field-head .ensures (start .args .names .now))) .is (capacities (start .args .limits)) .inside,
+          (row-of (a .given .1) (at-read-field-head .read-field-head .ensures (start .args .names .now))) .is (start .args .limits) .inside,
         ),
         start .pre .1 .1,
       ),

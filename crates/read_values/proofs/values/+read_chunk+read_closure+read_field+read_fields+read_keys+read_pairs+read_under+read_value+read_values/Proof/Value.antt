@@ -122,7 +122,7 @@ read-value-returns-6 t c =
       start .pre .1 .0,
       write-row .kept,
       if4 .left,
-      (row-of (a .given .1) (rw (class-of .ensures) at (read-head .ensures))) .is (capacities (args .limits)) .inside,
+      (row-of (a .given .1) (rw (class-of .ensures) at (read-head .ensures))) .is (args .limits) .inside,
     )))
 
 read-value-read-chunk-requires : (t : ℕ) → read-value-lts.Need-read-chunk-requires (read-value-known t) (read-value-at t) read-value.Post
@@ -141,7 +141,7 @@ read-value-read-chunk-requires t c κs =
           start .pre .1 .0,
           at-write-row .write-row .kept,
           if4 .left,
-          (row-of (a .given .1) (rw (class-of .ensures) at (at-read-head .read-head .ensures))) .is (capacities (start .args .limits)) .inside,
+          (row-of (a .given .1) (rw (class-of .ensures) at (at-read-head .read-head .ensures))) .is (start .args .limits) .inside,
         ),
         start .pre .1 .1,
       ),
@@ -196,7 +196,7 @@ read-value-read-under-requires t c κs =
           start .pre .1 .0,
           at-write-row .write-row .kept,
           if4 .left,
-          (row-of (a .given .1) (rw (class-of .ensures) at (at-read-head .read-head .ensures))) .is (capacities (start .args .limits)) .inside,
+          (row-of (a .given .1) (rw (class-of .ensures) at (at-read-head .read-head .ensures))) .is (start .args .limits) .inside,
         ),
         (start .pre .1 .1, (if2 .left, c .before .before .if7 .left, if5 .left)),
       ),

@@ -1,8 +1,8 @@
--- `limits_of` meets its contract: each capacity is the definition's.
+-- `Capacities::of` meets its contract: each capacity is the definition's.
 use borrow.Author.Needs.{needs}
 use Rattle.payload.specs.Tables.{capacitiesOf}
-use Rattle.deserialize.proofs.limits_of.Statement.{statement}
-use Rattle.deserialize.proofs.limits_of.Tie as tie
+use Rattle.payload.proofs.Capacities.of.Statement.{statement}
+use Rattle.payload.proofs.Capacities.of.Tie as tie
 
 returns : tie.Need-returns
 unfolding capacitiesOf
@@ -14,8 +14,8 @@ returns c =
       c .start-capacity .ensures,
     )
 
-pub limits-of-spec : {M : Type 1} → statement M
-limits-of-spec =
+pub of-spec : {M : Type 1} → statement M
+of-spec =
     tie.close
     (tie.spec
     (λ c κs. search needs)
