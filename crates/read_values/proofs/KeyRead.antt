@@ -20,7 +20,7 @@ use Rattle.payload.specs.Rows.{countWords, itemWords, itemsWords, kidsCountWord
 use Rattle.payload.specs.Shapes.{ItemKind, Shape, isKeyTag, keys, kindsOf, noValue, oneValue, pairs, shape, shapes, values, withChunk, withFields, withKids, withTemplate}
 use Rattle.payload.specs.Trees.{Node, forgetItem, forgetItems, itemValue, itemsValue, cons, keyOf, nil, nodeOf, number, single, string}
 use Rattle.read_items.specs.Context.{PoolFits, contextOf, partOf, partsOf}
-use Rattle.read_values.specs.Did.{Fit, capacities, context, stateOf}
+use Rattle.read_values.specs.Did.{Fit, context, stateOf}
 use Rattle.read_values.specs.Under.{chunkRow, fieldRow}
 use Rattle.read_values.specs.declared.State.{State}
 use Rattle.read_values.proofs.Tags.{by-table, every}

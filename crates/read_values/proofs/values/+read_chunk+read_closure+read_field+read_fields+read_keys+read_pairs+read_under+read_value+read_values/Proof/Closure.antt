@@ -14,7 +14,7 @@ use Rattle.payload.specs.Trees.{cons}
 use Rattle.read_items.specs.Class.{shapeOf}
 use Rattle.read_items.specs.Heads.{rowsUnder}
 use Rattle.read_items.specs.declared.Class.the-variants.{Closure}
-use Rattle.read_values.specs.Did.{capacities, context, stateOf}
+use Rattle.read_values.specs.Did.{context, stateOf}
 use Rattle.read_values.specs.Laws.Did.{ran-of, no-of}
 use Rattle.read_values.proofs.Shape.{closure-head, closure-no, closure-other, many-count}
 use Rattle.read_values.proofs.Value.{did-closure, first-tag, no-row, row-of, row-told, some-words}

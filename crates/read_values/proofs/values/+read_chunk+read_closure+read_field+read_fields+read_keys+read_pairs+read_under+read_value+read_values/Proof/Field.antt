@@ -8,7 +8,7 @@ use Rattle.payload.specs.Choice.{if_then_else_}
 use Rattle.payload.specs.Reading.{readValue}
 use Rattle.payload.specs.Shapes.{ItemKind, oneValue, withKids, shape}
 use Rattle.read_items.specs.Context.{contextOf}
-use Rattle.read_values.specs.Did.{capacities, context}
+use Rattle.read_values.specs.Did.{context}
 use Rattle.read_values.specs.Under.{readUnder}
 use Rattle.read_values.proofs.Tags.{noTemplate}
 use Rattle.read_values.proofs.Shape.{row-full, row-room}

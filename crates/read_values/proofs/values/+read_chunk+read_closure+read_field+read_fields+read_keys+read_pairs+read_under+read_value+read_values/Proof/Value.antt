@@ -7,7 +7,7 @@ use borrow.Author.Needs.{needs}
 use Rattle.payload.specs.Reading.{readValue}
 use Rattle.payload.specs.Shapes.{shape}
 use Rattle.read_items.specs.Context.{contextOf}
-use Rattle.read_values.specs.Did.{capacities, context}
+use Rattle.read_values.specs.Did.{context}
 use Rattle.read_values.proofs.Loop.{did-one}
 use Rattle.read_values.proofs.Tags.{no-template}
 use Rattle.read_values.proofs.Shape.{function-count, under-function, value-deep, value-end, value-full, value-shape, value-tag-bad}
