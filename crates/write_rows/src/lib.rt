@@ -25,17 +25,17 @@ const ROW_WIDTH: usize = 5;
 const WALK_DEPTH: usize = 65;
 
 // The next row, the next span, the place in the payload, and the pool index that the next string is expected to have.
-pub struct Place {
-    pub row: usize,
-    pub span: usize,
-    pub at: usize,
-    pub expected: usize,
+struct Place {
+    row: usize,
+    span: usize,
+    at: usize,
+    expected: usize,
 }
 
 // The place in the payload, and the pool index expected next.
-pub struct Step {
-    pub at: usize,
-    pub expected: usize,
+struct Step {
+    at: usize,
+    expected: usize,
 }
 
 // ---- a row's items

@@ -42,12 +42,12 @@ use Rattle.pool_index.specs.Laws.Distinct.{interned-distinct}
 use Rattle.pool_index.specs.Strings.{bytesAt, distinct}
 use Rattle.pool_check.specs.Plain.{plainStrings}
 use Rattle.gather.specs.Gather.{nameParts, rowsParts}
-use Rattle.gather_link.specs.Laws.Gathered.{strings-found}
-use Rattle.gather_link.specs.Laws.Parts.{bytesOf}
+use Rattle.gather.specs.Laws.SoundProgram.{strings-found}
+use Rattle.gather.specs.Laws.Parts.{bytesOf}
 use Rattle.pool_check.specs.Order.{Met, meetAll}
-use Rattle.house_link.specs.Laws.PoolEntries.{Entries, gathered-entries}
-use Rattle.house_link.specs.Laws.PoolOrder.{Rising, interned-order, order-interned, pool-rises}
-use Rattle.house_link.specs.Laws.PoolRead.{read-pool-interned, read-strings}
+use Rattle.pool_check.specs.Laws.PoolEntries.{Entries, gathered-entries}
+use Rattle.pool_check.specs.Laws.PoolOrder.{Rising, interned-order, order-interned, pool-rises}
+use Rattle.pool_check.specs.Laws.PoolRead.{read-pool-interned, read-strings}
 use Rattle.house.specs.Written.{AcceptedRead, allPositions, isWriting, poolWords}
 
 ---- the words of spans

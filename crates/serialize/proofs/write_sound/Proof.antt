@@ -13,10 +13,10 @@ write-gathered-requires c κs =
     let pre = at-gather-strings .before .before .before .before .before .before .before .before .pre in (
       omega (
         arith,
-        entries-fit _ _ _ (pre .0 .2) _ (gather-strings .ensures .0) _ (count .given .1) (gather-strings .ensures .1) (pre .1),
+        entries-fit _ _ _ (pre .0 .2) _ (gather-strings .ensures .0) _ (count .given .1) (gather-strings .ensures .1 .1) (pre .1),
         gather-strings .kept .1 .1 .1 .1 .1 .0,
       ),
-      entries-writable _ _ _ (pre .0 .2) _ (gather-strings .ensures .0) _ (count .given .1) (gather-strings .ensures .1) (pre .1),
+      entries-writable _ _ _ (pre .0 .2) _ (gather-strings .ensures .0) _ (count .given .1) (gather-strings .ensures .1 .1) (pre .1),
     )
 
 returns : tie.Need-returns
@@ -26,18 +26,15 @@ returns c =
     let at-gather-strings = at-count .before .before .before .before in
     let gather-strings = at-gather-strings .gather-strings in
     let pre = at-gather-strings .before .before .before .before .before .before .before .before .pre in
-    leaves-gathered _ _ _ (pre .0 .2) _ (gather-strings .ensures .0) _ (at-count .count .given .1) (gather-strings .ensures .1) (pre .1) _
+    leaves-gathered _ _ _ (pre .0 .2) _ (gather-strings .ensures .0) _ (at-count .count .given .1) (gather-strings .ensures .1 .1) (pre .1) _
     (gather-strings .kept .1 .1 .1 .1 .1 .0) (at-write-gathered .write-gathered .ensures)
 
 returns-2 : tie.Need-returns-2
 returns-2 c =
-    let refuse = c .before .before .refuse in
-    let at-enum-told = c .before .before .before .before in
-    let at-gather-strings = at-enum-told .before .before .before .before in
+    let at-gather-strings = c .before .before .before .before in
     let gather-strings = at-gather-strings .gather-strings in
     let pre = at-gather-strings .before .before .before .before .before .before .before .before .pre in
-    leaves-full _ _ _ (pre .0 .2) _ (gather-strings .ensures .0) _ _ _ (at-enum-told .enum-told .given .1) (gather-strings .kept .1 .1 .1 .1 .1 .0)
-    (refuse .ensures .0) (refuse .ensures .1)
+    leaves-full _ _ _ (pre .0 .2) _ (gather-strings .ensures .0) _ _ _ (c .enum-told .given .1) (gather-strings .ensures .1 .0)
 
 pub write-sound-spec : {M : Type 1} → statement M
 write-sound-spec =
@@ -47,7 +44,6 @@ write-sound-spec =
     (λ c. search needs)
     write-gathered-requires
     (λ c. search needs)
-    (λ c κs. search needs)
     (λ c. search needs)
     (λ c. search needs)
     returns

@@ -21,8 +21,8 @@ use Rattle.payload.specs.Write.{hasBytes, internedParts}
 use Rattle.payload.specs.Writing.{concat, gathered, poolOf, writeLineIndex, writeTrees, writing}
 use Rattle.pool_index.specs.Laws.Distinct.{index-at, interned-distinct}
 use Rattle.pool_index.specs.Strings.{distinct}
-use Rattle.gather_link.specs.Laws.Parts.{bytesOf, pool-bytes}
-use Rattle.house_link.specs.Laws.PoolEntries.{Entries, Entry, entries-append, gathered-entries, noPart}
+use Rattle.gather.specs.Laws.Parts.{bytesOf, pool-bytes}
+use Rattle.pool_check.specs.Laws.PoolEntries.{Entries, Entry, entries-append, gathered-entries, noPart}
 
 ---- entries of a pool that has no string twice
 

@@ -23,7 +23,7 @@ use Rattle.payload.specs.Tables.{spanWords}
 use Rattle.payload.specs.Trees.{Item, number, string, nativeName, recordName, code, kindOf, forgetItem, forgetItems, spanItem, spanItems}
 use Rattle.pool_index.specs.Strings.{bytesAt}
 use Rattle.row_layout.specs.Layout.{numberForm, itemForm, firstOf}
-use Rattle.write_link.specs.Laws.Row.{noCode, codeFirst, Spanned, AllSpanned}
+use Rattle.write_rows.specs.Laws.RowItems.{noCode, codeFirst, Spanned, AllSpanned}
 
 ---- spans as words
 

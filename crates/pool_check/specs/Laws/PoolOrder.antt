@@ -26,10 +26,10 @@ use Rattle.payload.specs.Rows.{partWords}
 use Rattle.payload.specs.Tables.{partsWords}
 use Rattle.payload.specs.Write.{hasBytes, internedParts}
 use Rattle.pool_index.specs.Strings.{distinct}
-use Rattle.gather_link.specs.Laws.Parts.{bytesOf}
+use Rattle.gather.specs.Laws.Parts.{bytesOf}
 use Rattle.pool_check.specs.Order as words
-use Rattle.house_link.specs.Laws.PoolEntries.{Entries, Entry, noPart}
-use Rattle.house_link.specs.Laws.PoolRead.{entry-once}
+use Rattle.pool_check.specs.Laws.PoolEntries.{Entries, Entry, noPart}
+use Rattle.pool_check.specs.Laws.PoolRead.{entry-once}
 
 ---- the offsets of a pool that was read rise
 

@@ -25,9 +25,9 @@ use Rattle.payload.specs.Tables.{spanWords}
 use Rattle.payload.specs.Trees.{Item, number, string, nativeName, recordName, code, forgetItems, forgetTrees, Trees, nil, node, spanItems, spanCount, size}
 use Rattle.payload.specs.Writing.{writeItems, writeTrees, concat, writeKids, writeRow, tagByte}
 use Rattle.row_layout.specs.Layout.{kidsForm, shapeForm, firstForm, secondForm, secondWord, underForm, countWord}
 use Rattle.write_rows.specs.Walk.{Held, rowCount, rowWord, itemsBytes, headBytes, rowsUnder, codeLength, spanAfter, rowSpans, Walked, walked, andWalk, walkTimes, walkNext, walkRow, walk}
-use Rattle.write_link.specs.Laws.Row.{noCode, codeFirst, fine, fine-shape, items-written, length-items}
-use Rattle.write_link.specs.Laws.RowSpans.{spans-back, spans-drop, Coded, coded, no-spans}
+use Rattle.write_rows.specs.Laws.RowItems.{noCode, codeFirst, fine, fine-shape, items-written, length-items}
+use Rattle.write_rows.specs.Laws.RowSpans.{spans-back, spans-drop, Coded, coded, no-spans}
 
 ---- what the rule of a row says of its items and of how many are under it
 

@@ -26,10 +26,10 @@ use Rattle.payload.specs.Writing.{writeTrees, concat, poolOf, writing, writeStr
 use Rattle.pool_index.specs.Laws.Distinct.{interned-distinct}
 use Rattle.pool_index.specs.Strings.{bytesAt, poolStrings, distinct, writePool}
 use Rattle.write_code.specs.Runs.{Positions}
 use Rattle.write_rows.specs.Payload.{lineBytes, payloadBytes, walkDepth}
 use Rattle.write_rows.specs.Reached.{Writable}
 use Rattle.write_rows.specs.Walk.{rowCount, Walked}
-use Rattle.write_link.specs.Laws.Walks.{tall, ruled, walks}
+use Rattle.write_rows.specs.Laws.TreeWalk.{tall, ruled, walks}
 
 ---- what obeying the rules says
 

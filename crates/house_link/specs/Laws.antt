@@ -1,3 +1,0 @@
-pub mod PoolEntries
-pub mod PoolRead
-pub mod PoolOrder

@@ -1,4 +1,0 @@
-pub mod Row
-pub mod RowSpans
-pub mod Walks
-pub mod Writing
