@@ -15,8 +15,14 @@ pub enum Body {
     Short(usize),
 }
 
-// The body of n bytes at a place.
-pub fn body_at(payload: &[u8], at: usize, n: usize) -> Body
+// The work, which the functions over the cursor call with the slice and the position: the varint at a place, and the body of n bytes.
+fn uvarint_at(payload: &[u8], at: usize) -> Varint
+    ensures { λ r. ⌜ r ≡ varintOf (now (payload .entry)) at ⌝ }
+{
+    varint::uvarint(payload, at)
+}
+
+fn body_at(payload: &[u8], at: usize, n: usize) -> Body
     ensures { λ r. ⌜ r ≡ bodyOf (now (payload .entry)) at n ⌝ }
 {
     if at <= payload.len() {
@@ -29,19 +35,19 @@ pub fn body_at(payload: &[u8], at: usize, n: usize) -> Body
     Body::Short(at)
 }
 
-pub fn cursor_at<'a>(payload: &'a [u8], at: usize) -> Cursor<'a>
+fn cursor_at<'a>(payload: &'a [u8], at: usize) -> Cursor<'a>
     ensures { λ r. ⌜ (r .payload ≡ payload .entry) × (r .at ≡ at) ⌝ }
 {
     Cursor { payload, at }
 }
 
-pub fn uvarint<'a>(c: Cursor<'a>) -> Varint
+fn uvarint<'a>(c: Cursor<'a>) -> Varint
     ensures { λ r. ⌜ r ≡ varintOf (now (c .entry .payload)) (c .entry .at) ⌝ }
 {
-    varint::uvarint(c.payload, c.at)
+    uvarint_at(c.payload, c.at)
 }
 
-pub fn take<'a>(c: Cursor<'a>, n: usize) -> Body
+fn take<'a>(c: Cursor<'a>, n: usize) -> Body
     ensures { λ r. ⌜ r ≡ bodyOf (now (c .entry .payload)) (c .entry .at) n ⌝ }
 {
     body_at(c.payload, c.at, n)

@@ -1,26 +1,28 @@
 -- What is read after the pool, from its two parts: the outer chunk and the line index.
 use mathlib.Core.List.{List}
 use mathlib.Core.Option.{Option}
-use mathlib.Core.Path.{_≡_, refl, sym}
+use mathlib.Core.Path.{_≡_, refl, sym, _∙_}
 use Prim.Native.Nat.{ℕ, _*_, _/_, _≤_}
 use native.Mathlib.Omega.{arith}
 use lib.ListN.{length}
-use lib.Seq.{take-all}
+use Rattle.slices.specs.Put.{put}
+use Rattle.slices.specs.Zeros.{padTo, zeroFrom, zeros}
+use Rattle.slices.specs.Laws.Zeros.{padTo-nil, zeroFrom-put}
 use Rattle.payload.specs.Reader.{Part, Result, ok, refused, andThen, pure, _>>=_}
 use Rattle.payload.specs.Reader as reader
 use Rattle.payload.specs.Reading.{Context, Payload, readChunk, readLineIndex}
-use Rattle.payload.specs.Tables.{readAnswer, usedPool, usedRows, usedSpans, usedStarts}
+use Rattle.payload.specs.Rows.{rowWidth}
+use Rattle.payload.specs.Tables.{lineStarts, readAnswer, usedPool, usedRows, usedSpans, usedStarts}
 use Rattle.payload.specs.Trees.{LineIndex, Node}
 use Rattle.payload.specs.declared.Read.the-variants as read
 use Rattle.read_items.specs.Context.{PoolFits, contextOf}
 use Rattle.read_items.specs.Laws.Context.{length-partsOf, partsWords-partsOf}
 use Rattle.read_items.specs.Reads.{stateAt, stopped}
 use Rattle.read_lines.specs.LinesRead.{Accepted, InContext}
-use Rattle.read_values.specs.Did.{Fit, Ran, context, oneTree}
+use Rattle.read_values.specs.Did.{Fit, Ran, context, oneTree, rowsIn, spansIn}
 use Rattle.payload.specs.declared.Capacities.{Capacities}
 use Rattle.read_values.specs.declared.State.{State}
-use Rattle.deserialize.specs.Filled.{Filled, readScript}
-use Rattle.deserialize.proofs.Begins.{begins-nil, begins-put}
+use Rattle.deserialize.specs.Script.{ScriptLeaves, readScript}
 
 ---- the definition's steps
 
@@ -39,43 +41,52 @@ module _ (e : Context) (s : reader.State) where
   unfolding readScript _>>=_ andThen
   script-no-lines f g = rw (f, g)
 
----- a refusal: no word of any table is used
+---- a refusal: every word of every table is 0
 
-pub filled-no : {x : Result Payload} {n q : ℕ} {rows spans starts pool : List ℕ} → x ≡ refused n q → Filled x rows spans starts pool (read.Refused n q)
+pub refused-leaves :
+    {x : Result Payload} {n q : ℕ} {pool rows spans starts rows′ spans′ starts′ : List ℕ} → x ≡ refused n q →
+    rows′ ≡ zeros (length rows) → spans′ ≡ zeros (length spans) → starts′ ≡ zeros (length starts) →
+    ScriptLeaves x pool rows spans starts rows′ spans′ starts′ (read.Refused n q)
 unfolding readAnswer usedRows usedSpans usedStarts usedPool
-filled-no {rows} {spans} {starts} {pool} e = rw e (record {
+refused-leaves {rows = rows} {spans} {starts} e a b c = rw e (record {
   answer = refl;
-  rows-begin = begins-nil rows;
-  spans-begin = begins-nil spans;
-  starts-begin = begins-nil starts;
-  pool-begins = begins-nil pool;
+  rows-are = a ∙ sym (padTo-nil (length rows));
+  spans-are = b ∙ sym (padTo-nil (length spans));
+  starts-are = c ∙ sym (padTo-nil (length starts));
+  strings-are = refl;
 })
 
 ---- the outer chunk, then the line index
 
-module _ (names : List ℕ) {limits : Capacities} {p pool rows rows′ spans spans′ : List ℕ} (at : ℕ) {s : State} {outer : Node Part}
-    (ran : Ran oneTree limits p rows rows′ spans spans′ 0 0 s outer (readChunk (context limits p names pool) (stateAt p at 0 0))) where
-  pub filled-no-lines : {starts′ : List ℕ} {n q : ℕ} → InContext p pool (limits .starts) (s .at) readLineIndex (stopped n q)
-      → Filled (readScript (context limits p names pool) (stateAt p at 0 0)) rows′ spans′ starts′ pool (read.Refused n q)
-  filled-no-lines g =
-      filled-no (script-no-lines (context limits p names pool) (stateAt p at 0 0) (ran .is) (g .reads limits names refl .is (s .rows) (s .spans)))
+-- the words of a table behind those stored at its begin are cleared
+stored-cleared :
+    (table used : List ℕ) (n : ℕ) {table′ table″ : List ℕ} → n ≡ length used → n ≤ length table → table′ ≡ put table 0 used → table″ ≡ zeroFrom n table′ →
+    table″ ≡ padTo (length table) used
+stored-cleared table used n e h s z = rw (s, e) at z ∙ zeroFrom-put table used (omega arith)
+
+module _ (names : List ℕ) {limits : Capacities} {p pool rows rows₁ spans spans₁ : List ℕ} (at : ℕ) {s : State} {outer : Node Part}
+    (ran : Ran oneTree limits p rows rows₁ spans spans₁ 0 0 s outer (readChunk (context limits p names pool) (stateAt p at 0 0))) where
+  pub no-lines-read : {n q : ℕ} → InContext p pool (limits .starts) (s .at) readLineIndex (stopped n q)
+      → readScript (context limits p names pool) (stateAt p at 0 0) ≡ refused n q
+  no-lines-read g =
+      script-no-lines (context limits p names pool) (stateAt p at 0 0) (ran .is) (g .reads limits names refl .is (s .rows) (s .spans))
 
   module _ (fit : Fit limits p rows spans (record { at = at; rows = 0; spans = 0 }))
       (whole : length pool ≡ 2 * (length pool / 2)) (inside : PoolFits p pool) where
-    pub filled-script :
-        {starts starts′ : List ℕ} {flag o n k next : ℕ} → limits .starts ≤ length starts →
-        Accepted p pool starts starts′ (limits .starts) (s .at) readLineIndex flag o n k next →
-        Filled (readScript (context limits p names pool) (stateAt p at 0 0)) rows′ spans′ starts′ pool
+    pub accepted-leaves :
+        {starts starts₁ rows′ spans′ starts′ : List ℕ} {flag o n k next : ℕ} → limits .starts ≤ length starts →
+        Accepted p pool starts starts₁ (limits .starts) (s .at) readLineIndex flag o n k next →
+        rows′ ≡ zeroFrom (rowWidth * s .rows) rows₁ → spans′ ≡ zeroFrom (2 * s .spans) spans₁ → starts′ ≡ zeroFrom k starts₁ →
+        ScriptLeaves (readScript (context limits p names pool) (stateAt p at 0 0)) pool rows spans starts rows′ spans′ starts′
         (read.Accepted
         (record { consumed = next; rows = s .rows; spans = s .spans; starts = k; strings = length pool / 2; flag = flag; «name_o» = o; «name_n» = n }))
     unfolding contextOf readAnswer usedRows usedSpans usedStarts usedPool
-    filled-script {starts} room g =
-        let words = partsWords-partsOf p pool (length pool / 2) whole inside in
+    accepted-leaves {starts} room g a b c =
         rw (script-ok (context limits p names pool) (stateAt p at 0 0) (ran .is) (g .is .reads limits names refl .is (s .rows) (s .spans)))
         (record {
           answer = cc (length-partsOf p pool);
-          rows-begin = rw (ran .wrote) (begins-put rows _ _ (omega (arith, ran .size)) (omega (arith, ran .used, fit .room)));
-          spans-begin = rw (ran .filled) (begins-put spans _ _ (omega (arith, ran .spanned)) (omega (arith, ran .covered, fit .cover)));
-          starts-begin = rw (g .stored) (begins-put starts _ _ (g .each) (omega (arith, g .fits)));
-          pool-begins = rw words (record { count = sym whole; first = take-all (2 * (length pool / 2)) pool (omega arith) });
+          rows-are = stored-cleared rows (rowsIn oneTree outer) (rowWidth * s .rows) (omega (arith, ran .size)) (omega (arith, ran .used, fit .room)) (ran .wrote) a;
+          spans-are = stored-cleared spans (spansIn oneTree outer) (2 * s .spans) (omega (arith, ran .spanned)) (omega (arith, ran .covered, fit .cover)) (ran .filled) b;
+          starts-are = stored-cleared starts (lineStarts (g .line)) _ (g .each) (omega (arith, g .fits)) (g .stored) c;
+          strings-are = partsWords-partsOf p pool (length pool / 2) whole inside;
         })

@@ -1,6 +1,6 @@
 -- The capacities of the lent tables, and the reading of a payload from that of its parts.
-use mathlib.Core.List.{List}
-use mathlib.Core.Path.{_≡_, ap, _∙_}
+use mathlib.Core.List.{List, []}
+use mathlib.Core.Path.{_≡_, refl, sym, ap, _∙_}
 use Prim.Native.Nat.{ℕ, _*_, _/_, _≤_, _<_}
 use native.Mathlib.Omega.{arith}
 use lib.ListN.{length, take}
@@ -10,17 +10,18 @@ use Rattle.payload.specs.Choice.{if_then_else_}
 use Rattle.payload.specs.Reader.{Result, andThen, refused, start, _>>=_}
 use Rattle.payload.specs.Reading.{Payload, readPayload, readPool}
 use Rattle.payload.specs.declared.Capacities.{Capacities}
-use Rattle.payload.specs.Rows.{rowWidth}
-use Rattle.payload.specs.Tables.{Leaves, capacitiesOf, partsWords, reading, sizeLimit}
+use Rattle.payload.specs.Tables.{Leaves, capacitiesOf, partsWords, reading, sizeLimit, usedPool}
 use Rattle.payload.specs.declared.Read.{Read}
-use Rattle.slices.specs.Zeros.{zeroFrom}
+use Rattle.payload.specs.declared.Read.the-variants as read
+use Rattle.slices.specs.Zeros.{padTo, zeroFrom, zeros}
 use Rattle.slices.specs.Laws.Put.{length-put}
+use Rattle.slices.specs.Laws.Zeros.{padTo-nil, zeroFrom-padTo}
 use Rattle.read_items.specs.Context.{PoolFits, contextOf}
 use Rattle.read_items.specs.Reads.{stateAt}
 use Rattle.read_pool.specs.PoolRead.{Accepted}
 use Rattle.read_values.specs.Did.{Fit}
-use Rattle.deserialize.specs.Filled.{Filled, countsOf, readScript}
-use Rattle.deserialize.proofs.Begins.{begins-front, begins-cleared}
+use Rattle.deserialize.specs.Script.{ScriptLeaves, poolUsed, readScript}
+use Rattle.deserialize.proofs.Script.{refused-leaves}
 
 ---- capacities
 
@@ -78,31 +79,40 @@ module _ (c : Capacities) (names p : List ℕ) (h : length p ≤ sizeLimit) wher
   script-after-pool a = rw (le-ltb sizeLimit (length p) h, a .is, a .strings)
 
   -- the pool table was lent up to its used words
-  pub filled-payload : {pool pool′ rows spans starts : List ℕ} {n next : ℕ} {r : Read} (m : ℕ) → m ≡ 2 * n → Accepted p pool pool′ (c .strings) n next
-      → Filled (readScript (contextOf c p names (take m pool′)) (stateAt p next 0 0)) rows spans starts (take m pool′) r
-      → Filled (reading c names p) rows spans starts pool′ r
-  filled-payload {n = n} m e a f =
-      let g = rw e at f in
-      rw (script-after-pool a) (record {
-        answer = g .answer;
-        rows-begin = g .rows-begin;
-        spans-begin = g .spans-begin;
-        starts-begin = g .starts-begin;
-        pool-begins = begins-front (2 * n) (g .pool-begins);
-      })
+  module _ {pool pool₁ : List ℕ} {n next : ℕ} (room : 2 * c .strings ≤ length pool) (a : Accepted p pool pool₁ (c .strings) n next) (m : ℕ) (e : m ≡ 2 * n) where
+    pub payload-leaves : {rows spans starts rows′ spans′ starts′ pool′ : List ℕ} {r : Read}
+        → ScriptLeaves (readScript (contextOf c p names (take m pool₁)) (stateAt p next 0 0)) (take m pool₁) rows spans starts rows′ spans′ starts′ r
+        → pool′ ≡ padTo (length pool) (poolUsed r (take m pool₁))
+        → Leaves (reading c names p) rows spans starts pool rows′ spans′ starts′ pool′ r
+    payload-leaves f z =
+        let g = rw e at f in
+        rw (script-after-pool a) (record {
+          answer = g .answer;
+          rows-are = g .rows-are;
+          spans-are = g .spans-are;
+          starts-are = g .starts-are;
+          pool-is = (rw e at z) ∙ ap (padTo (length pool)) (sym (g .strings-are));
+        })
 
----- the words behind the used ones are cleared
+    -- behind the strings
+    pub pool-padded : {pool′ : List ℕ} → pool′ ≡ zeroFrom (2 * n) pool₁ → pool′ ≡ padTo (length pool) (take m pool₁)
+    pool-padded z = rw e
+        (z
+        ∙ zeroFrom-padTo pool₁ (take (2 * n) pool₁) (2 * n) (length pool) (sym (length-take-le (2 * n) pool₁ (pool-room a room))) refl
+        (ap length (a .stored) ∙ length-put pool 0 (partsWords (a .parts))))
 
-pub cleared :
-    {x : Result Payload} {rows spans starts pool rows₁ spans₁ starts₁ pool₁ rows′ spans′ starts′ pool′ : List ℕ} {r : Read} →
-    Filled x rows₁ spans₁ starts₁ pool₁ r → length rows₁ ≡ length rows → length spans₁ ≡ length spans → length starts₁ ≡ length starts →
-    length pool₁ ≡ length pool → rows′ ≡ zeroFrom (rowWidth * countsOf r .rows) rows₁ → spans′ ≡ zeroFrom (2 * countsOf r .spans) spans₁ →
-    starts′ ≡ zeroFrom (countsOf r .starts) starts₁ → pool′ ≡ zeroFrom (2 * countsOf r .strings) pool₁ →
-    Leaves x rows spans starts pool rows′ spans′ starts′ pool′ r
-cleared f a b c d i j k l = record {
-  answer = f .answer;
-  rows-are = i ∙ begins-cleared (f .rows-begin) a;
-  spans-are = j ∙ begins-cleared (f .spans-begin) b;
-  starts-are = k ∙ begins-cleared (f .starts-begin) c;
-  pool-is = l ∙ begins-cleared (f .pool-begins) d;
-}
+-- a refusal: every word of every table is 0
+pub refused-payload :
+    {x : Result Payload} {n q : ℕ} {rows spans starts pool rows′ spans′ starts′ pool′ : List ℕ} → x ≡ refused n q →
+    rows′ ≡ zeros (length rows) → spans′ ≡ zeros (length spans) → starts′ ≡ zeros (length starts) → pool′ ≡ zeros (length pool) →
+    Leaves x rows spans starts pool rows′ spans′ starts′ pool′ (read.Refused n q)
+unfolding usedPool
+refused-payload {rows = rows} {spans} {starts} {pool} e a b c d =
+    let f = refused-leaves {pool = []} {rows = rows} {spans = spans} {starts = starts} e a b c in
+    record {
+      answer = f .answer;
+      rows-are = f .rows-are;
+      spans-are = f .spans-are;
+      starts-are = f .starts-are;
+      pool-is = rw e (d ∙ sym (padTo-nil (length pool)));
+    }

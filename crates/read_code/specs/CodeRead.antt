@@ -4,6 +4,7 @@ use mathlib.Core.Path.{_≡_}
 use Prim.Native.Nat.{ℕ, _+_, _*_, _≤_}
 use lib.ListN.{length}
 use Rattle.slices.specs.Put.{put}
+use Rattle.slices.specs.Zeros.{zeros}
 use Rattle.payload.specs.Reader.{ok, refused}
 use Rattle.payload.specs.Spans.{Span, readCode}
 use Rattle.payload.specs.Tables.{spanWords}
@@ -22,11 +23,19 @@ pub record Accepted (p table table′ : List ℕ) (used most at o n next : ℕ) 
   pub inside : next ≤ length p
   pub code-inside : o + n ≤ length p
 
--- nothing is said of the table after a refusal
 abbrev pub Outcome : List ℕ → List ℕ → List ℕ → ℕ → ℕ → ℕ → CodeAt → Type 0
 Outcome p table table′ used most at (Code o n next) = Accepted p table table′ used most at o n next
 Outcome p table table′ used most at (Refused n q) = (rows : ℕ) → readCode most (stateAt p at rows used) ≡ refused n q
 
--- r is what the definition reads at a place of p, whatever rows went before, and `table′` is the table after it
+-- r is what the definition reads at a place of p, whatever rows went before; nothing is said of the table after a refusal
+pub record CodeFilled (p table table′ : List ℕ) (used most at : ℕ) (r : CodeAt) : Type 0 where
+  pub outcome : Outcome p table table′ used most at r
+
+abbrev pub Cleared : List ℕ → List ℕ → CodeAt → Type 0
+Cleared table table′ (Code o n next) = Unit {0}
+Cleared table table′ (Refused n q) = table′ ≡ zeros (length table)
+
+-- r is what the definition reads at a place of p, whatever rows went before, and `table′` is the table after it: the spans stored, or zeros at a refusal
 pub record CodeRead (p table table′ : List ℕ) (used most at : ℕ) (r : CodeAt) : Type 0 where
   pub outcome : Outcome p table table′ used most at r
+  pub cleared : Cleared table table′ r

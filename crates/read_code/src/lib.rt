@@ -8,7 +8,7 @@ ghost use Rattle.slices.specs.Put.{put};
 ghost use Rattle.payload.specs.Spans.{readPosition};
 ghost use Rattle.payload.specs.Tables.{spanWords};
 ghost use Rattle.read_items.specs.Reads.{Reads};
-ghost use Rattle.read_code.specs.CodeRead.{CodeRead};
+ghost use Rattle.read_code.specs.CodeRead.{CodeFilled, CodeRead};
 ghost use Rattle.read_code.specs.Runs.{positionAnswer, ShortRun, RunRead, RunsRead, Refuses, spanOf};
 use cursor::Body;
 use varint::Position;
@@ -229,10 +229,10 @@ fn read_runs(
     RunsAt::End(next)
 }
 
-// Reads the code at `at`, and stores its spans in the table, of which `used` of at most `most` spans are used.
-pub fn read_code(bytes: &[u8], spans: &mut [u64], used: usize, most: usize, at: usize) -> CodeAt
+// The code at `at`, its spans into the table, of which `used` of at most `most` spans are used. A refusal leaves in it spans of the runs before.
+fn fill_spans(bytes: &[u8], spans: &mut [u64], used: usize, most: usize, at: usize) -> CodeAt
     requires { ⌜ (used ≤ most) × (2 * most ≤ length (now spans)) ⌝ }
-    ensures { λ r. ⌜ CodeRead (now (bytes .entry)) (now (spans .entry)) (now (spans .exit)) used most at r ⌝ }
+    ensures { λ r. ⌜ CodeFilled (now (bytes .entry)) (now (spans .entry)) (now (spans .exit)) used most at r ⌝ }
 {
     match cursor::read_uvarint(bytes, at) {
         Varint::Number(length, first) => {
@@ -261,5 +261,19 @@ pub fn read_code(bytes: &[u8], spans: &mut [u64], used: usize, most: usize, at: 
             }
         }
         Varint::Refused(n, q) => CodeAt::Refused(n, q),
+    }
+}
+
+// Reads the code at `at`, and stores its spans in the table, of which `used` of at most `most` spans are used. A refusal leaves zeros in the table.
+pub fn read_code(bytes: &[u8], spans: &mut [u64], used: usize, most: usize, at: usize) -> CodeAt
+    requires { ⌜ (used ≤ most) × (2 * most ≤ length (now spans)) ⌝ }
+    ensures { λ r. ⌜ CodeRead (now (bytes .entry)) (now (spans .entry)) (now (spans .exit)) used most at r ⌝ }
+{
+    match fill_spans(bytes, spans, used, most, at) {
+        CodeAt::Code(o, n, next) => CodeAt::Code(o, n, next),
+        CodeAt::Refused(n, q) => {
+            slices::zero_u64_from(spans, 0);
+            CodeAt::Refused(n, q)
+        }
     }
 }

@@ -19,7 +19,7 @@ use Rattle.read_items.specs.Laws.Context.{length-part, was-part, part-inside, n
 use Rattle.read_items.specs.Laws.Reads.{reads-pure, reads-then, reads-stop, reads-here, reads-must, reads-must-not}
 use Rattle.read_items.specs.declared.PartAt.{PartAt}
 use Rattle.read_items.specs.declared.PartAt.the-variants as part-at
-use Rattle.read_lines.specs.LinesRead.{InContext, Accepted, LinesRead}
+use Rattle.read_lines.specs.LinesRead.{InContext, Accepted, LinesFilled}
 use Rattle.read_lines.specs.Starts.{Stored}
 use Rattle.read_lines.specs.declared.LinesAt.{LinesAt}
 use Rattle.read_lines.specs.declared.LinesAt.the-variants.{Lines, Refused}
@@ -105,8 +105,8 @@ module _ {p pool : List ℕ} {most at : ℕ} where
           record { reads = λ c names h. reads-here _ (reads-then _ g (reads-must _ _ (le-leb flag 1 l) (rw e (f .reads c names h)))) }
 
       pub with-lines :
-          {table table′ : List ℕ} {r : LinesAt} → LinesRead p pool table table′ most next (λ e. readFlagged e 1) r →
-          LinesRead p pool table table′ most at readLineIndex r
+          {table table′ : List ℕ} {r : LinesAt} → LinesFilled p pool table table′ most next (λ e. readFlagged e 1) r →
+          LinesFilled p pool table table′ most at readLineIndex r
       with-lines {r = Lines flag o n k end} f = let a = f .outcome in record {
         outcome = record {
           line = a .line;

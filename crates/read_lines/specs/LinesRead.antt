@@ -5,8 +5,9 @@ use mathlib.Core.Path.{_≡_}
 use Prim.Native.Nat.{ℕ, _≤_}
 use lib.ListN.{length}
 use Rattle.slices.specs.Put.{put}
+use Rattle.slices.specs.Zeros.{zeros}
 use Rattle.payload.specs.Reader.{Part, Reader}
-use Rattle.payload.specs.Reading.{Context}
+use Rattle.payload.specs.Reading.{Context, readLineIndex}
 use Rattle.payload.specs.declared.Capacities.{Capacities}
 use Rattle.payload.specs.Tables.{lineFlag, lineName, lineStarts}
 use Rattle.payload.specs.Trees.{LineIndex}
@@ -31,11 +32,19 @@ pub record Accepted (p pool table table′ : List ℕ) (most at : ℕ) (reader :
   pub fits : k ≤ most
   pub inside : next ≤ length p
 
--- nothing is said of the table after a refusal
 abbrev pub Outcome : List ℕ → List ℕ → List ℕ → List ℕ → ℕ → ℕ → (Context → Reader (Option (LineIndex Part))) → LinesAt → Type 0
 Outcome p pool table table′ most at reader (Lines flag o n k next) = Accepted p pool table table′ most at reader flag o n k next
 Outcome p pool table table′ most at reader (Refused n q) = InContext p pool most at reader (stopped n q)
 
--- r is what the definition's reader reads at a place of p, and `table′` is the table after it
-pub record LinesRead (p pool table table′ : List ℕ) (most at : ℕ) (reader : Context → Reader (Option (LineIndex Part))) (r : LinesAt) : Type 0 where
+-- r is what the definition's reader reads at a place of p; nothing is said of the table after a refusal
+pub record LinesFilled (p pool table table′ : List ℕ) (most at : ℕ) (reader : Context → Reader (Option (LineIndex Part))) (r : LinesAt) : Type 0 where
   pub outcome : Outcome p pool table table′ most at reader r
+
+abbrev pub Cleared : List ℕ → List ℕ → LinesAt → Type 0
+Cleared table table′ (Lines flag o n k next) = Unit {0}
+Cleared table table′ (Refused n q) = table′ ≡ zeros (length table)
+
+-- r is what the definition reads at a place of p, and `table′` is the table after it: the starts stored, or zeros at a refusal
+pub record LinesRead (p pool table table′ : List ℕ) (most at : ℕ) (r : LinesAt) : Type 0 where
+  pub outcome : Outcome p pool table table′ most at readLineIndex r
+  pub cleared : Cleared table table′ r

@@ -3,7 +3,7 @@ ghost use Prim.Native.Nat.{_≤_};
 ghost use lib.ListN.{length};
 ghost use Rattle.payload.specs.Reading.{readFlagged, readLineIndex};
 ghost use Rattle.read_items.specs.Context.{PoolFits};
-ghost use Rattle.read_lines.specs.LinesRead.{LinesRead};
+ghost use Rattle.read_lines.specs.LinesRead.{LinesFilled, LinesRead};
 ghost use Rattle.read_lines.specs.Starts.{StartsRead};
 use read_items::Number;
 use read_items::PartAt;
@@ -51,7 +51,7 @@ fn read_starts(bytes: &[u8], starts: &mut [u32], most: usize, count: u64, at: us
 // What stands after a flag of 1: the name and the starts.
 fn read_flagged(bytes: &[u8], pool: &[u64], starts: &mut [u32], most: usize, at: usize) -> LinesAt
     requires { ⌜ (most ≤ length (now starts)) × PoolFits (now bytes) (now pool) ⌝ }
-    ensures { λ r. ⌜ LinesRead (now (bytes .entry)) (now (pool .entry)) (now (starts .entry)) (now (starts .exit)) most at (λ e. readFlagged e 1) r ⌝ }
+    ensures { λ r. ⌜ LinesFilled (now (bytes .entry)) (now (pool .entry)) (now (starts .entry)) (now (starts .exit)) most at (λ e. readFlagged e 1) r ⌝ }
 {
     match items::read_pool_index(bytes, pool, at) {
         PartAt::Part(o, n, count_at) => match items::read_uvarint(bytes, count_at) {
@@ -65,16 +65,10 @@ fn read_flagged(bytes: &[u8], pool: &[u64], starts: &mut [u32], most: usize, at:
     }
 }
 
-// Reads the line index at `at`, whose starts go into a table that holds at most `most`.
-pub fn read_line_index(
-    bytes: &[u8],
-    pool: &[u64],
-    starts: &mut [u32],
-    most: usize,
-    at: usize,
-) -> LinesAt
+// The line index at `at`, its starts into the table from its begin on. A refusal leaves in it the starts before.
+fn fill_starts(bytes: &[u8], pool: &[u64], starts: &mut [u32], most: usize, at: usize) -> LinesAt
     requires { ⌜ (most ≤ length (now starts)) × PoolFits (now bytes) (now pool) ⌝ }
-    ensures { λ r. ⌜ LinesRead (now (bytes .entry)) (now (pool .entry)) (now (starts .entry)) (now (starts .exit)) most at readLineIndex r ⌝ }
+    ensures { λ r. ⌜ LinesFilled (now (bytes .entry)) (now (pool .entry)) (now (starts .entry)) (now (starts .exit)) most at readLineIndex r ⌝ }
 {
     match items::read_byte(bytes, at) {
         Number::Read(flag, next) => {
@@ -87,5 +81,31 @@ pub fn read_line_index(
             read_flagged(bytes, pool, starts, most, next)
         }
         Number::Refused(n, q) => LinesAt::Refused(n, q),
+    }
+}
+
+// Reads the line index at `at`, whose starts go into a table that holds at most `most`. A refusal leaves zeros in the table.
+pub fn read_line_index(
+    bytes: &[u8],
+    pool: &[u64],
+    starts: &mut [u32],
+    most: usize,
+    at: usize,
+) -> LinesAt
+    requires { ⌜ (most ≤ length (now starts)) × PoolFits (now bytes) (now pool) ⌝ }
+    ensures { λ r. ⌜ LinesRead (now (bytes .entry)) (now (pool .entry)) (now (starts .entry)) (now (starts .exit)) most at r ⌝ }
+{
+    match fill_starts(bytes, pool, starts, most, at) {
+        LinesAt::Lines(flag, name_o, name_n, count, next) => LinesAt::Lines(
+            flag,
+            name_o,
+            name_n,
+            count,
+            next,
+        ),
+        LinesAt::Refused(n, q) => {
+            slices::zero_u32_from(starts, 0);
+            LinesAt::Refused(n, q)
+        }
     }
 }

@@ -19,7 +19,7 @@ use Rattle.read_items.specs.Context.{partOf}
 use Rattle.read_items.specs.Laws.Context.{length-part}
 use Rattle.read_items.specs.Laws.Reads.{reads-pure, reads-then, reads-stop, reads-here, reads-must, reads-must-not, reads-body, reads-body-end}
 use Rattle.read_items.specs.Laws.Sofar.{after, Sofar, in-front, sofar-none, sofar-more, sofar-stop, sofar-all}
-use Rattle.read_pool.specs.PoolRead.{Accepted, PoolRead}
+use Rattle.read_pool.specs.PoolRead.{Accepted, PoolFilled}
 use Rattle.read_pool.specs.Strings.{stringAnswer, Stored, StringsRead}
 use Rattle.read_pool.specs.Laws.PoolTable.{part-more, AllIn, part-in, all-in-last, strings-of-words, words-fit, words-stored}
 use Rattle.read_pool.specs.declared.PoolAt.{PoolAt}
@@ -163,6 +163,6 @@ module _ {p : List ℕ} (most : ℕ) where
         }
 
     pub pool-read :
-        {table table′ : List ℕ} {r : PoolAt} → 2 * most ≤ length table → StringsRead p table table′ most count first r → PoolRead p table table′ most r
+        {table table′ : List ℕ} {r : PoolAt} → 2 * most ≤ length table → StringsRead p table table′ most count first r → PoolFilled p table table′ most r
     pool-read {r = pool-at.Pool n next} h f = record { outcome = accepted h (f .outcome) }
     pool-read {r = pool-at.Refused n q} h f = record { outcome = no-strings (f .outcome) }

@@ -3,7 +3,7 @@ ghost use Prim.Native.Nat.{_*_, _≤_};
 ghost use lib.ListN.{length};
 ghost use Rattle.payload.specs.Reading.{readString};
 ghost use Rattle.read_items.specs.Reads.{Reads};
-ghost use Rattle.read_pool.specs.PoolRead.{PoolRead};
+ghost use Rattle.read_pool.specs.PoolRead.{PoolFilled, PoolRead};
 ghost use Rattle.read_pool.specs.Strings.{stringAnswer, StringsRead};
 use cursor::Body;
 use read_items::Number;
@@ -66,13 +66,27 @@ fn read_strings(bytes: &[u8], pool: &mut [u64], most: usize, count: u64, at: usi
     PoolAt::Pool(k, next)
 }
 
-// Reads the pool, which stands at the payload's begin.
-pub fn read_pool(bytes: &[u8], pool: &mut [u64], most: usize) -> PoolAt
+// The count and the strings, into the table from its begin on. A refusal leaves in it the strings before.
+fn fill_pool(bytes: &[u8], pool: &mut [u64], most: usize) -> PoolAt
     requires { ⌜ 2 * most ≤ length (now pool) ⌝ }
-    ensures { λ r. ⌜ PoolRead (now (bytes .entry)) (now (pool .entry)) (now (pool .exit)) most r ⌝ }
+    ensures { λ r. ⌜ PoolFilled (now (bytes .entry)) (now (pool .entry)) (now (pool .exit)) most r ⌝ }
 {
     match items::read_uvarint(bytes, 0) {
         Number::Read(count, first) => read_strings(bytes, pool, most, count, first),
         Number::Refused(n, q) => PoolAt::Refused(n, q),
+    }
+}
+
+// Reads the pool, which stands at the payload's begin. A refusal leaves zeros in the table.
+pub fn read_pool(bytes: &[u8], pool: &mut [u64], most: usize) -> PoolAt
+    requires { ⌜ 2 * most ≤ length (now pool) ⌝ }
+    ensures { λ r. ⌜ PoolRead (now (bytes .entry)) (now (pool .entry)) (now (pool .exit)) most r ⌝ }
+{
+    match fill_pool(bytes, pool, most) {
+        PoolAt::Pool(n, next) => PoolAt::Pool(n, next),
+        PoolAt::Refused(n, q) => {
+            slices::zero_u64_from(pool, 0);
+            PoolAt::Refused(n, q)
+        }
     }
 }

@@ -43,7 +43,7 @@ fn row(tag: u64, a: u64, b: u64) -> Words
 }
 
 // The constant of a row's words, each cut to what its case holds.
-pub fn const_of(t: u64, a: u64, b: u64) -> Constant
+fn const_of(t: u64, a: u64, b: u64) -> Constant
     ensures { λ r. ⌜ r ≡ constOf t a b ⌝ }
 {
     match t {
@@ -85,7 +85,7 @@ fn const_sfloat(n: u32) -> Constant
 }
 
 // The words of a constant's row; those of Other are all 0.
-pub fn row_of(c: Constant) -> Words
+fn row_of(c: Constant) -> Words
     ensures { λ r. ⌜ r ≡ rowOf c ⌝ }
 {
     match c {

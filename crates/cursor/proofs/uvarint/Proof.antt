@@ -1,4 +1,4 @@
--- `cursor::uvarint` meets its contract: a walk of its MIR, by hand. The struct is taken apart, and `varint::uvarint` is called on the slice and the number. All that the proof knows of `varint::uvarint` is that it meets its contract.
+-- `cursor::uvarint` meets its contract: a walk of its MIR, by hand. The struct is taken apart, and `uvarint_at` is called on the slice and the number. All that the proof knows of `uvarint_at` is that it meets its contract.
 -- The struct is Copy: what it owns is had twice, one copy is kept whole for the exit, and of the other what payload owns goes to the callee, beside the lifetime's token, which comes back.
 -- Assumes nothing.
 use mathlib.Core.Path.{_≡_, refl}
@@ -50,10 +50,10 @@ use Rattle.cursor.proofs.Cursor as T
 use Rattle.cursor.proofs.Cursor.Laws as T′
 use Rattle.varint.proofs.Varint as S
 use Rattle.varint.proofs.Varint.Laws as S′
-use Rattle.varint.proofs.uvarint as step
-use Rattle.varint.proofs.uvarint.Symbol as step-def
-use Rattle.varint.proofs.uvarint.Symbol.{name as #varint·uvarint}
-use Rattle.varint.proofs.uvarint.Met as step-thm
+use Rattle.cursor.proofs.uvarint_at as step
+use Rattle.cursor.proofs.uvarint_at.Symbol as step-def
+use Rattle.cursor.proofs.uvarint_at.Symbol.{name as #cursor·uvarint-at}
+use Rattle.cursor.proofs.uvarint_at.Met as step-thm
 use Rattle.cursor.proofs.uvarint.Key.{name as #cursor·uvarint}
 use Rattle.cursor.proofs.uvarint as uvarint
 use Rattle.cursor.proofs.uvarint.Statement as stated
@@ -129,7 +129,7 @@ module _ {M : Type 1} (𝓤 : URA M) (H : Heap 𝓤) (A : Atoms 𝓤) (W : Given
       suffices ! _ (ends-at 𝓤 H A uvarint.ended stayed (uvarint.clauses 𝓤 H A mem run) W (((κ, tt), (q, tt), tt, (d, tt), (mach ∷ [], tt)), tt) u r (tt, tt) (tt, tt)) $ says ! e $
       move ! (1 ∷ []) $ frame ! $ nothing ! $ move ! (2 ∷ 0 ∷ []) $ fjoin ! $ frame ! $ done !
 
-  module _ (C : Calls 𝓤 H) (Λ : Loops 𝓤 H) (fm : FmC 𝓤 H (W .laws) C) (known : Triple 𝓤 (C #varint·uvarint) (UvarintAt 𝓤 H A mem run)) where
+  module _ (C : Calls 𝓤 H) (Λ : Loops 𝓤 H) (fm : FmC 𝓤 H (W .laws) C) (known : Triple 𝓤 (C #cursor·uvarint-at) (UvarintAt 𝓤 H A mem run)) where
     walk :
         Holds (hasTy (T′.mir (named 0)) mach) × WT mach →
         ent 𝓤 (onEntry 𝓤 H A uvarint.signature (κ, tt) (q, tt) (d, tt) (mach ∷ [], tt)) (WpFn 𝓤 H C Λ code.function (mach ∷ []) Post)
@@ -149,7 +149,7 @@ module _ {M : Type 1} (𝓤 : URA M) (H : Heap 𝓤) (A : Atoms 𝓤) (W : Given
         move ! (9 ∷ 10 ∷ []) $ free1 ! $ move ! (7 ∷ 8 ∷ []) $ free1 ! $ move ! (5 ∷ 6 ∷ []) $ free1 ! $ move ! (3 ∷ 4 ∷ []) $ free1 ! $ free0 ! $ by ! (exits r u e)))))))))
 
 module _ {M : Type 1} (𝓤 : URA M) (H : Heap 𝓤) (A : Atoms 𝓤) (W : Given 𝓤 H A) (mem : Memory → SProp 𝓤) (run : Routine → Fun 𝓤) where
-  uvarint-walks : (C : Calls 𝓤 H) (Λ : Loops 𝓤 H) → FmC 𝓤 H (W .laws) C → Triple 𝓤 (C #varint·uvarint) (UvarintAt 𝓤 H A mem run)
+  uvarint-walks : (C : Calls 𝓤 H) (Λ : Loops 𝓤 H) → FmC 𝓤 H (W .laws) C → Triple 𝓤 (C #cursor·uvarint-at) (UvarintAt 𝓤 H A mem run)
       → Walks 𝓤 H A uvarint.ended stayed (WpFn 𝓤 H C Λ code.function) (uvarint.clauses 𝓤 H A mem run)
   uvarint-walks C Λ fm known =
       walked 𝓤 H A uvarint.ended stayed (uvarint.clauses 𝓤 H A mem run) (WpFn 𝓤 H C Λ code.function)
@@ -161,7 +161,7 @@ module _ {M : Type 1} (𝓤 : URA M) (H : Heap 𝓤) (A : Atoms 𝓤) (W : Given
       (LL.lawful (T.the-type (namedLft 1 0 tt κs)) (T′.the-laws (namedLft 1 0 tt κs)) 𝓤 H A W .typed (a .0) _ (are .0) .0)))
 
 uvarint-meets : {M : Type 1} (𝓤 : URA M) (H : Heap 𝓤) (A : Atoms 𝓤) (W : Given 𝓤 H A) (mem : Memory → SProp 𝓤) (run : Routine → Fun 𝓤) (𝓣 : Tables 𝓤 H)
-    → Triple 𝓤 (𝓣 .C #varint·uvarint) (UvarintAt 𝓤 H A mem run)
+    → Triple 𝓤 (𝓣 .C #cursor·uvarint-at) (UvarintAt 𝓤 H A mem run)
     → Meets 𝓤 H A uvarint.signature (WpFn 𝓤 H (𝓣 .C) (𝓣 .Λ) code.function) (uvarint.spec 𝓤 H A mem run)
 uvarint-meets 𝓤 H A W mem run 𝓣 known-step =
     walk-meets 𝓤 H A uvarint.ended stayed W (goes-none 𝓤 H A W 1 B yes (λ κs x f. refl), tt) (uvarint.clauses 𝓤 H A mem run)
@@ -174,4 +174,4 @@ uvarint-spec 𝓤 H 𝓜 𝓖 𝓡 =
     entered 𝓤 H (tripleOf 𝓤 H (𝓖 .A) uvarint.signature (uvarint.spec 𝓤 H (𝓖 .A) (𝓜 .mem) (𝓡 .run)))
     (tables 𝓤 H 𝓜 𝓡 code.env .C) (tables 𝓤 H 𝓜 𝓡 code.env .Λ) #cursor·uvarint code.function (code.unfolded 𝓤 H 𝓜 𝓡)
     (uvarint-meets 𝓤 H (𝓖 .A) (givenOf 𝓤 H 𝓜 𝓖) (𝓜 .mem) (𝓡 .run) (tablesOf 𝓤 H 𝓜 (tables 𝓤 H 𝓜 𝓡 code.env))
-    (cited 𝓤 H (UvarintAt 𝓤 H (𝓖 .A) (𝓜 .mem) (𝓡 .run)) 𝓜 𝓡 code.env #varint·uvarint step-def.routine code.calls-varint·uvarint (step-thm.met 𝓤 H 𝓜 𝓖 𝓡)))
+    (cited 𝓤 H (UvarintAt 𝓤 H (𝓖 .A) (𝓜 .mem) (𝓡 .run)) 𝓜 𝓡 code.env #cursor·uvarint-at step-def.routine code.calls-cursor·uvarint-at (step-thm.met 𝓤 H 𝓜 𝓖 𝓡)))

@@ -1,61 +1,102 @@
--- `deserialize_payload` meets its contract: the words behind the used ones are cleared.
-use mathlib.Core.Path.{_∙_}
+-- `deserialize_payload` meets its contract: the size, the pool, then what stands after it, and zeros behind the strings.
+use Rattle.slices.specs.Zeros.{zeros}
+use Rattle.slices.specs.Laws.Zeros.{zeroFrom-zero, padTo-nil}
+use Rattle.read_pool.specs.Laws.PoolRead.{was-pool, no-pool, pool-cleared}
+use Rattle.deserialize.proofs.Tables.{strings-fit, strings-few, starts-fit, tables-fit, pool-room, pool-whole, pool-inside, too-large, no-pool-read, payload-leaves, pool-padded, refused-payload}
+use Prim.Native.Nat.{_-_, _*_}
+use mathlib.Core.Path.{_≡_, sym, ap, _∙_}
 use native.Mathlib.Omega.{arith}
+use lib.ListN.{length}
 use borrow.Author.Needs.{needs}
-use Rattle.deserialize.proofs.Begins.{begins-le}
-use Rattle.deserialize.proofs.Tables.{cleared}
 use Rattle.deserialize.proofs.deserialize_payload.Statement.{statement}
 use Rattle.deserialize.proofs.deserialize_payload.Tie as tie
 
-mul-zero-u64-from : tie.Need-mul-zero-u64-from
-mul-zero-u64-from c =
-    let fill = c .before .before .before .before .before .before .before .before .before .before .before in
-    let filled = fill .fill-tables in
-    let good = fill .before .before .before .before .before .before .before .before .before .before .before .good in
-    rw (c .before .before .counts-of .ensures) (omega (arith, begins-le (filled .ensures .rows-begin), filled .kept .1 .1 .0, good .1 .1 .0 .0))
-
-mul-zero-u64-from-2 : tie.Need-mul-zero-u64-from-2
-mul-zero-u64-from-2 c =
-    let at-counts-of = c .before .before .before .before .before .before .before in
-    let fill = at-counts-of .before .before .before .before .before .before .before .before .before in
-    let filled = fill .fill-tables in
-    let good = fill .before .before .before .before .before .before .before .before .before .before .before .good in
-    rw (at-counts-of .counts-of .ensures) (omega (arith, begins-le (filled .ensures .spans-begin), filled .kept .1 .1 .1 .0, good .1 .1 .1 .0 .0))
-
-mul-zero-u64-from-3 : tie.Need-mul-zero-u64-from-3
-mul-zero-u64-from-3 c =
-    let at-counts-of = c .before .before .before .before .before .before .before .before .before .before .before .before .before .before .before .before in
-    let fill = at-counts-of .before .before .before .before .before .before .before .before .before in
-    let filled = fill .fill-tables in
-    let good = fill .before .before .before .before .before .before .before .before .before .before .before .good in
-    rw (at-counts-of .counts-of .ensures) (omega (arith, begins-le (filled .ensures .pool-begins), filled .kept .1 .1 .1 .1 .1 .0, good .1 .1 .1 .1 .1 .0 .0))
-
-same-length : tie.Need-same-length
-same-length c =
-    let clear = c .before .before .before .before .before .before .before .before .before .before .before .before .before .before .before .before in
-    let fill-tables = clear .before .before .before .before .before .before .before .before .before .before .before .before .fill-tables in
-    clear .zero-u64-from .kept .0 ∙ fill-tables .kept .1 .1 .0
-
-same-length-2 : tie.Need-same-length-2
-same-length-2 c =
-    let clear = c .before .before .before .before .before .before .before .before .before .before .before in
-    let fill-tables = clear .before .before .before .before .before .before .before .before .before .before .before .before .before .before .before .before
-    .before .fill-tables in
-    clear .zero-u64-from2 .kept .0 ∙ fill-tables .kept .1 .1 .1 .0
-
 returns : tie.Need-returns
 returns c =
-    let starts = c .before .before .before .before .before .before .before in
-    let spans = starts .before .before .before .before in
-    let rows = spans .before .before .before .before .before in
-    let filled = rows .before .before .before .before .before .before .before .before .before .before .before .before .fill-tables in
-    let counts = rows .before .before .before .counts-of .ensures in
-    let kept = filled .kept .1 .1 in
-    cleared (filled .ensures) (kept .0) (kept .1 .0) (kept .1 .1 .0) (kept .1 .1 .1 .0)
-    (rw counts at (rows .zero-u64-from .ensures))
-    (rw counts at (spans .zero-u64-from2 .ensures))
-    (rw counts at (starts .zero-u32-from .ensures))
-    (rw counts at (c .before .before .zero-u64-from3 .ensures))
+    let at-if1 = c .before .before .before .before .before .before .before .before .before .before .before .before .before .before in
+    let args = at-if1 .before .before .before .before .before .before .before .args in
+    let cleared = c .before .before .before .before .before .before .before .before .before .before .clear-script .ensures in
+    refused-payload (too-large _ _ _ (at-if1 .if1 .taken)) (cleared .0) (cleared .1 .0) (cleared .1 .1)
+    (c .before .before .zero-u64-from .ensures ∙ zeroFrom-zero (args .pool .now))
+
+read-pool-requires : tie.Need-read-pool-requires
+read-pool-requires c κs = strings-fit _ _ _ _ (c .before .of .ensures)
+
+mul-end : tie.Need-mul-end
+mul-end c =
+    let at-read-pool = c .before .before .before .before .before in
+    let limits-of = at-read-pool .before .before .of in
+    omega (arith, was-pool (at-read-pool .read-pool .ensures) (c .before .count .given .1) .fits, strings-few _ _ _ _ (limits-of .ensures))
+
+part-strings-end : tie.Need-part-strings-end
+part-strings-end c =
+    let at-read-pool = c .before .before .before .before .before .before in
+    let limits-of = at-read-pool .before .before .of in
+    pool-room (was-pool (at-read-pool .read-pool .ensures) (c .before .before .count .given .1)) (strings-fit _ _ _ _ (limits-of .ensures))
+
+read-script-requires : tie.Need-read-script-requires
+read-script-requires c κs =
+    let read-pool = c .before .before .before .before .before .before .before .before .before .before .read-pool in
+    let count = c .before .before .before .before .before .before .count .given in
+    let limits = c .before .before .before .before .before .before .before .before .before .before .before .before .of .ensures in
+    let read = was-pool (read-pool .ensures) (count .1) in
+    let room = strings-fit _ _ _ _ limits in
+    let n = count .0 .0 in
+    let e : 2 * n - 0 ≡ 2 * n = omega arith in
+    (tables-fit _ _ _ _ limits (read .inside), (starts-fit _ _ _ _ limits, (pool-whole read room _ e, pool-inside read room _ e)))
+
+returns-2 : tie.Need-returns-2
+returns-2 c =
+    let at-counts = c .before .before .before .before .before in
+    let at-read-script = at-counts .before .before .before .before .before .before .before .before in
+    let at-read-pool = at-read-script .before .before .before .before .before .before .before .before .before .before .before in
+    let limits = at-read-pool .before .before .of in
+    let x = at-read-pool .before .before .before .before .before .before .before .before .before .before .args in
+    let count = at-read-script .before .before .before .before .before .before .before .count .given in
+    let read = was-pool (at-read-pool .read-pool .ensures) (count .1) in
+    let room = strings-fit _ _ _ _ (limits .ensures) in
+    let n = count .0 .0 in
+    let e : 2 * n - 0 ≡ 2 * n = omega arith in
+    let caps = capacities (limits .result) in
+    let fits = at-read-pool .before .before .before .if1 .left in
+    rw (← limits .ensures)
+    (payload-leaves caps (x .names .now) (x .bytes .now) fits room read _ e (rw (at-counts .counts .given .1) at (at-read-script .read-script .ensures))
+    (pool-padded caps (x .names .now) (x .bytes .now) fits room read _ e (c .before .before .zero-u64-from2 .ensures)))
+
+returns-3 : tie.Need-returns-3
+returns-3 c =
+    let at-n = c .before .before .before .before .before in
+    let at-read-script = at-n .before .before .before .before .before .before .before .before in
+    let at-read-pool = at-read-script .before .before .before .before .before .before .before .before .before .before .before in
+    let read-pool = at-read-pool .read-pool in
+    let limits = at-read-pool .before .before .of in
+    let x = at-read-pool .before .before .before .before .before .before .before .before .before .before .args in
+    let count = at-read-script .before .before .before .before .before .before .before .count .given in
+    let read = was-pool (read-pool .ensures) (count .1) in
+    let room = strings-fit _ _ _ _ (limits .ensures) in
+    let n = count .0 .0 in
+    let e : 2 * n - 0 ≡ 2 * n = omega arith in
+    let caps = capacities (limits .result) in
+    let fits = at-read-pool .before .before .before .if1 .left in
+    rw (← limits .ensures)
+    (payload-leaves caps (x .names .now) (x .bytes .now) fits room read _ e (rw (at-n .n .given .1) at (at-read-script .read-script .ensures))
+    (c .before .before .zero-u64-from3 .ensures ∙ zeroFrom-zero (read-pool .last .1 .0) ∙ ap zeros (read-pool .kept .1 .0)
+    ∙ sym (padTo-nil (length (x .pool .now)))))
+
+returns-4 : tie.Need-returns-4
+returns-4 c =
+    let at-limits-of = c .before .before .before .before .before .before .before .before .before .before .before .before .before .before .before .before
+    .before in
+    let limits = at-limits-of .of in
+    let if1 = at-limits-of .before .if1 in
+    let x = at-limits-of .before .before .before .before .before .before .before .before .args in
+    let cleared = c .before .before .before .before .before .before .clear-script2 .ensures in
+    let read-pool = c .before .before .before .before .before .before .before .before .before .before .before .before .before .before .before .read-pool
+    .ensures in
+    let n = c .before .before .before .before .before .before .before .before .before .before .before .n2 .given .1 in
+    rw (← limits .ensures)
+    (refused-payload (no-pool-read (limits .result) (x .names .now) (x .bytes .now) (if1 .left) (no-pool read-pool n)) (cleared .0) (cleared .1 .0)
+    (cleared .1 .1) (pool-cleared read-pool n))
 
 pub deserialize-payload-spec : {M : Type 1} → statement M
 deserialize-payload-spec =
@@ -63,15 +104,38 @@ deserialize-payload-spec =
     (tie.spec
     (λ c κs. search needs)
     (λ c κs. search needs)
-    mul-zero-u64-from
-    (λ c κs. search needs)
-    mul-zero-u64-from-2
-    (λ c κs. search needs)
-    (λ c κs. search needs)
-    mul-zero-u64-from-3
-    (λ c κs. search needs)
-    same-length
-    same-length-2
     (λ c. search needs)
     (λ c. search needs)
-    returns)
+    (λ c. search needs)
+    (λ c. search needs)
+    returns
+    (λ c κs. search needs)
+    read-pool-requires
+    (λ c. search needs)
+    mul-end
+    (λ c. search needs)
+    (λ c. search needs)
+    (λ c. search needs)
+    part-strings-end
+    read-script-requires
+    (λ c. search needs)
+    (λ c κs. search needs)
+    (λ c. search needs)
+    (λ c κs. search needs)
+    (λ c. search needs)
+    (λ c κs. search needs)
+    (λ c. search needs)
+    (λ c. search needs)
+    (λ c. search needs)
+    (λ c. search needs)
+    returns-2
+    (λ c. search needs)
+    (λ c. search needs)
+    (λ c. search needs)
+    (λ c. search needs)
+    returns-3
+    (λ c. search needs)
+    (λ c. search needs)
+    (λ c. search needs)
+    (λ c. search needs)
+    returns-4)

@@ -1,35 +1,67 @@
--- `read_script` meets its contract: the outer chunk, then the line index.
-use borrow.Author.Needs.{needs}
-use Rattle.read_lines.specs.Laws.LinesRead.{was-lines, no-lines}
+-- `read_script` meets its contract: the outer chunk, then the line index, and zeros behind them.
+use Rattle.slices.specs.Zeros.{zeros}
+use Rattle.slices.specs.Laws.Zeros.{zeroFrom-zero}
+use Rattle.read_lines.specs.Laws.LinesRead.{was-lines, no-lines, lines-cleared}
 use Rattle.read_values.specs.Laws.Did.{ran-of, no-of}
-use Rattle.deserialize.proofs.Script.{filled-no, filled-no-lines, filled-script, script-no-chunk}
+use Rattle.deserialize.proofs.Script.{accepted-leaves, no-lines-read, refused-leaves, script-no-chunk}
+use mathlib.Core.Path.{ap, _∙_}
+use native.Mathlib.Omega.{arith}
+use borrow.Author.Needs.{needs}
 use Rattle.deserialize.proofs.read_script.Statement.{statement}
 use Rattle.deserialize.proofs.read_script.Tie as tie
 
+mul-zero-u64-from : tie.Need-mul-zero-u64-from
+mul-zero-u64-from c =
+    let at-state = c .before .before .before .before .before .before .before .before .before .before in
+    let at-read-outer = at-state .before .before .before .before .before .before in
+    let pre = at-read-outer .before .before .before .before .before .before .before .before .before .pre in
+    let outer = ran-of (at-state .state .given .1) (at-read-outer .read-outer .ensures) in omega (arith, outer .1 .used, pre .0 .few)
+
+mul-zero-u64-from-2 : tie.Need-mul-zero-u64-from-2
+mul-zero-u64-from-2 c =
+    let at-state = c .before .before .before .before .before .before .before .before .before .before .before .before .before .before .before in
+    let at-read-outer = at-state .before .before .before .before .before .before in
+    let pre = at-read-outer .before .before .before .before .before .before .before .before .before .pre in
+    let outer = ran-of (at-state .state .given .1) (at-read-outer .read-outer .ensures) in omega (arith, outer .1 .covered, pre .0 .few-spans)
+
 returns : tie.Need-returns
 returns c =
-    let at-read-line-index = c .before .before .before .before .before in
+    let at-zero-u64-from2 = c .before .before .before .before .before .before in
+    let at-zero-u64-from = at-zero-u64-from2 .before .before .before .before .before in
+    let at-flag = at-zero-u64-from .before .before .before .before in
+    let at-read-line-index = at-flag .before .before .before .before in
     let state = at-read-line-index .before .before .before .state in
     let at-read-outer = at-read-line-index .before .before .before .before .before .before .before .before .before in
     let start = at-read-outer .before .before .before .before .before .before .before .before .before in
     let asked = start .pre in
     let outer = ran-of (state .given .1) (at-read-outer .read-outer .ensures) in
-    let lines = was-lines (c .before .flag .given .1) (at-read-line-index .read-line-index .ensures) in
-    filled-script (start .args .names .now) (start .args .at) (outer .1) (asked .0) (asked .1 .1 .0) (asked .1 .1 .1) (asked .1 .0) lines
+    let lines = was-lines (at-read-line-index .read-line-index .ensures) (at-flag .flag .given .1) in
+    accepted-leaves (start .args .names .now) (start .args .at) (outer .1) (asked .0) (asked .1 .1 .0) (asked .1 .1 .1) (asked .1 .0) lines
+    (at-zero-u64-from .zero-u64-from .ensures) (at-zero-u64-from2 .zero-u64-from2 .ensures) (c .before .before .zero-u32-from .ensures)
 
 returns-2 : tie.Need-returns-2
 returns-2 c =
-    let at-read-line-index = c .before .before .before .before .before in
-    let state = at-read-line-index .before .before .before .state in
-    let at-read-outer = at-read-line-index .before .before .before .before .before .before .before .before .before in
-    let x = at-read-outer .before .before .before .before .before .before .before .before .before .args in
-    let outer = ran-of (state .given .1) (at-read-outer .read-outer .ensures) in
-    filled-no-lines (x .names .now) (x .at) (outer .1) (no-lines (c .before .n .given .1) (at-read-line-index .read-line-index .ensures))
+    let at-zero-u64-from3 = c .before .before .before .before .before .before in
+    let at-state = at-zero-u64-from3 .before .before .before .before .before .before .before .before .before .before in
+    let at-read-outer = at-state .before .before .before .before .before .before in
+    let read-outer = at-read-outer .read-outer in
+    let args = at-read-outer .before .before .before .before .before .before .before .before .before .args in
+    let lines = at-zero-u64-from3 .before .before .before .before .before .before .before .read-line-index .ensures in
+    let n = at-zero-u64-from3 .before .before .before .n .given in
+    let outer = ran-of (at-state .state .given .1) (read-outer .ensures) in
+    refused-leaves (no-lines-read (args .names .now) (args .at) (outer .1) (no-lines lines (n .1)))
+    (at-zero-u64-from3 .zero-u64-from3 .ensures ∙ zeroFrom-zero (read-outer .last .1 .1 .1 .0) ∙ ap zeros (read-outer .kept .1 .1 .1 .0))
+    (c .before .before .zero-u64-from4 .ensures ∙ zeroFrom-zero (read-outer .last .1 .1 .1 .1 .0) ∙ ap zeros (read-outer .kept .1 .1 .1 .1 .0))
+    (lines-cleared lines (n .1))
 
 returns-3 : tie.Need-returns-3
 returns-3 c =
-    let read-outer = c .before .before .before .before .before .before .before .read-outer in
-    filled-no (script-no-chunk _ _ (no-of (c .before .n2 .given .1) (read-outer .ensures)))
+    let at-n2 = c .before .before .before .before .before .before .before .before .before .before .before in
+    let read-outer = at-n2 .before .before .before .before .before .before .read-outer in
+    let cleared = c .before .before .before .before .before .before .clear-script .ensures in
+    let kept = read-outer .kept .1 .1 .1 in
+    refused-leaves (script-no-chunk _ _ (no-of (at-n2 .n2 .given .1) (read-outer .ensures))) (cleared .0 ∙ ap zeros (kept .0))
+    (cleared .1 .0 ∙ ap zeros (kept .1 .0)) (cleared .1 .1)
 
 pub read-script-spec : {M : Type 1} → statement M
 read-script-spec =
@@ -39,8 +71,16 @@ read-script-spec =
     (λ c. search needs)
     (λ c κs. search needs)
     (λ c. search needs)
+    mul-zero-u64-from
+    (λ c κs. search needs)
+    mul-zero-u64-from-2
+    (λ c κs. search needs)
+    (λ c κs. search needs)
     (λ c. search needs)
+    (λ c κs. search needs)
+    (λ c κs. search needs)
     (λ c. search needs)
+    (λ c κs. search needs)
     (λ c. search needs)
     (λ c. search needs)
     (λ c. search needs)
@@ -49,6 +89,7 @@ read-script-spec =
     (λ c. search needs)
     (λ c. search needs)
     returns-2
+    (λ c. search needs)
     (λ c. search needs)
     (λ c. search needs)
     returns-3)

@@ -1,29 +1,24 @@
--- `read_line_index` meets its contract: the flag, and what stands after it.
-use native.Mathlib.Omega.{arith}
+-- `read_line_index` meets its contract: a refusal clears the table.
+use mathlib.Core.Path.{ap, _∙_}
 use borrow.Author.Needs.{needs}
-use Rattle.read_items.specs.Laws.Reads.{was-read, was-refused}
-use Rattle.read_lines.proofs.Lines.{no-flag, bad-flag, without-lines, with-lines}
+use Rattle.slices.specs.Zeros.{zeros}
+use Rattle.slices.specs.Laws.Zeros.{zeroFrom-zero}
 use Rattle.read_lines.proofs.read_line_index.Statement.{statement}
 use Rattle.read_lines.proofs.read_line_index.Tie as tie
 
 returns : tie.Need-returns
 returns c =
-    let read-byte = c .before .before .before .before .read-byte in
-    record { outcome = bad-flag (was-read (c .before .before .flag .given .1) (read-byte .ensures)) (omega arith) }
+    let fill-starts = c .before .before .before .before .before .fill-starts in
+    record { outcome = (rw (c .before .flag .given .1) at (fill-starts .ensures)) .outcome; cleared = tt }
 
 returns-2 : tie.Need-returns-2
 returns-2 c =
-    let read-byte = c .before .before .before .before .before .read-byte in
-    record { outcome = without-lines (was-read (c .before .before .before .flag .given .1) (read-byte .ensures)) (c .if2 .taken) }
-
-returns-3 : tie.Need-returns-3
-returns-3 c =
-    let at-flag = c .before .before .before .before .before .before .before in
-    let read-byte = at-flag .before .before .read-byte in
-    with-lines (was-read (at-flag .flag .given .1) (read-byte .ensures)) (omega arith) (omega arith) (c .before .before .read-flagged .ensures)
-
-returns-4 : tie.Need-returns-4
-returns-4 c = record { outcome = no-flag (was-refused (c .before .n .given .1) (c .before .before .before .read-byte .ensures)) }
+    let at-n = c .before .before .before .before .before in
+    let fill-starts = at-n .before .before .before .before .fill-starts in
+    record {
+      outcome = (rw (at-n .n .given .1) at (fill-starts .ensures)) .outcome;
+      cleared = c .before .before .zero-u32-from .ensures ∙ zeroFrom-zero (fill-starts .last .1 .1 .0) ∙ ap zeros (fill-starts .kept .1 .1 .0);
+    }
 
 pub read-line-index-spec : {M : Type 1} → statement M
 read-line-index-spec =
@@ -31,10 +26,9 @@ read-line-index-spec =
     (tie.spec
     (λ c κs. search needs)
     (λ c. search needs)
-    returns
-    returns-2
+    (λ c. search needs)
     (λ c κs. search needs)
     (λ c. search needs)
+    returns
     (λ c. search needs)
-    returns-3
-    returns-4)
+    returns-2)

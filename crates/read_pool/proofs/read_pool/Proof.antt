@@ -1,25 +1,24 @@
--- `read_pool` meets its contract: the count of the strings, then the strings.
+-- `read_pool` meets its contract: a refusal clears the table.
+use mathlib.Core.Path.{ap, _∙_}
 use borrow.Author.Needs.{needs}
-use Rattle.read_items.specs.Laws.Reads.{was-read, was-refused}
-use Rattle.read_pool.proofs.Strings.{no-count, pool-read}
+use Rattle.slices.specs.Zeros.{zeros}
+use Rattle.slices.specs.Laws.Zeros.{zeroFrom-zero}
 use Rattle.read_pool.proofs.read_pool.Statement.{statement}
 use Rattle.read_pool.proofs.read_pool.Tie as tie
 
-read-strings-requires : tie.Need-read-strings-requires
-read-strings-requires c κs =
-    let at-read-uvarint = c .before .before .before .before in
-    let pre = at-read-uvarint .before .before .before .pre in
-    let g = was-read (c .before .before .count .given .1) (at-read-uvarint .read-uvarint .ensures) in (g .inside, pre)
-
 returns : tie.Need-returns
 returns c =
-    let at-count = c .before .before .before .before .before in
-    let read-uvarint = at-count .before .before .read-uvarint in
-    let pre = at-count .before .before .before .before .before .pre in
-    pool-read _ (was-read (at-count .count .given .1) (read-uvarint .ensures)) pre (c .before .before .read-strings .ensures)
+    let fill-pool = c .before .before .before .before .before .fill-pool in
+    record { outcome = (rw (c .before .n .given .1) at (fill-pool .ensures)) .outcome; cleared = tt }
 
 returns-2 : tie.Need-returns-2
-returns-2 c = record { outcome = no-count _ (was-refused (c .before .n .given .1) (c .before .before .before .read-uvarint .ensures)) }
+returns-2 c =
+    let at-n = c .before .before .before .before .before in
+    let fill-pool = at-n .before .before .before .before .fill-pool in
+    record {
+      outcome = (rw (at-n .n2 .given .1) at (fill-pool .ensures)) .outcome;
+      cleared = c .before .before .zero-u64-from .ensures ∙ zeroFrom-zero (fill-pool .last .1 .0) ∙ ap zeros (fill-pool .kept .1 .0);
+    }
 
 pub read-pool-spec : {M : Type 1} → statement M
 read-pool-spec =
@@ -27,8 +26,9 @@ read-pool-spec =
     (tie.spec
     (λ c κs. search needs)
     (λ c. search needs)
-    read-strings-requires
     (λ c. search needs)
+    (λ c κs. search needs)
     (λ c. search needs)
     returns
+    (λ c. search needs)
     returns-2)
