@@ -18,15 +18,15 @@ use Rattle.payload.specs.Rows.{rootCount, rowTable, rowWidth, rowWords}
 use Rattle.payload.specs.Shapes.{isKeyTag}
 use Rattle.payload.specs.Trees.{Node, Trees, cons, nil, single}
 use Rattle.read_items.specs.Context.{PoolFits}
-use Rattle.read_values.specs.Told.{Told}
+use Rattle.key_test.specs.Told.{Told}
 use Rattle.read_values.specs.Did.{manyTrees, oneTree, Fit, Ran, Did, context, stateOf}
-use Rattle.read_values.specs.Keys.{keyRefusal, seenIn, tagOf}
+use Rattle.key_test.specs.Keys.{keyRefusal, seenIn, tagOf}
 use Rattle.read_values.specs.Laws.Did.{ran-of, no-of, ran-more, two-runs}
 use Rattle.payload.specs.declared.Capacities.{Capacities}
 use Rattle.read_values.specs.declared.State.{State}
 use Rattle.read_values.specs.declared.Step.{Step}
 use Rattle.read_values.specs.declared.Step.the-variants.{Done, Refused}
-use Rattle.read_values.proofs.Entries.{AllGood, Entry, Good, KeyNode, entriesSize, entriesTable, good-more, keysOf, seen-entries, table-length, table-more}
+use Rattle.key_test.specs.Laws.Entries.{AllGood, Entry, Good, KeyNode, entriesSize, entriesTable, good-more, keysOf, seen-entries, table-length, table-more}
 use Rattle.read_values.proofs.KeyRead.{key-read}
 use Rattle.read_values.proofs.Loop.{did-none, fit-next}
 

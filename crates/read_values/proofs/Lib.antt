@@ -2,7 +2,5 @@ pub mod Tags
 pub mod Loop
 pub mod Shape
 pub mod Value
-pub mod KeyTest
-pub mod Entries
 pub mod KeyRead
 pub mod KeyLoop

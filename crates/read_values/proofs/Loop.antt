@@ -11,7 +11,7 @@ use Rattle.payload.specs.Reading.{readMany}
 use Rattle.payload.specs.Rows.{rowTable, spanTable}
 use Rattle.payload.specs.Tables.{spanWords}
 use Rattle.payload.specs.Trees.{Node, cons, nil, single}
-use Rattle.read_values.specs.Told.{Told}
+use Rattle.key_test.specs.Told.{Told}
 use Rattle.read_values.specs.Did.{manyTrees, oneTree, Fit, Ran, Did, stateOf}
 use Rattle.read_values.specs.Laws.Did.{ran-of, no-of, ran-more}
 use Rattle.payload.specs.declared.Capacities.{Capacities}

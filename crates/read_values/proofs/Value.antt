@@ -25,7 +25,7 @@ use Rattle.read_items.specs.declared.Head.the-variants as head
 use Rattle.read_code.specs.CodeRead.{Accepted, CodeRead}
 use Rattle.read_code.specs.declared.CodeAt.{CodeAt}
 use Rattle.read_code.specs.declared.CodeAt.the-variants as code-at
-use Rattle.read_values.specs.Told.{RowTold}
+use Rattle.key_test.specs.Told.{RowTold}
 use Rattle.read_values.specs.Did.{manyTrees, oneTree, Fit, Ran, Did, context, stateOf}
 use Rattle.read_values.specs.Laws.Did.{did-node, two-runs, own-rows, own-spans, own-told, cons-rows, cons-spans, cons-told, length-spanWords}
 use Rattle.payload.specs.declared.Capacities.{Capacities}

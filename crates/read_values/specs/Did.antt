@@ -13,7 +13,7 @@ use Rattle.payload.specs.Tables.{spanWords}
 use Rattle.payload.specs.Trees.{Node, Trees, single}
 use Rattle.read_items.specs.Context.{contextOf}
 use Rattle.read_items.specs.Reads.{stateAt}
-use Rattle.read_values.specs.Told.{Told}
+use Rattle.key_test.specs.Told.{Told}
 use Rattle.read_values.specs.declared.State.{State}
 use Rattle.read_values.specs.declared.Step.{Step}
 use Rattle.read_values.specs.declared.Step.the-variants.{Done, Refused}

@@ -1,5 +1,4 @@
 // Values and chunks of a payload, read into lent tables.
-mod keys;
 mod rows;
 mod values;
 

@@ -9,7 +9,6 @@ ghost use Rattle.read_values.specs.Did.{Fit, Did, oneTree, manyTrees, co
 ghost use Rattle.read_values.specs.Under.{chunkRow, fieldRow, readUnder};
 use crate::State;
 use crate::Step;
-use crate::keys;
 use crate::rows;
 use payload::Capacities;
 use read_code::CodeAt;
@@ -345,7 +344,7 @@ fn read_keys(
     while k < count {
         match read_value(left, limits, bytes, names, pool, rows, spans, now) {
             Step::Done(next) => {
-                let refusal = keys::test_key(bytes, rows, first, now.rows, 0);
+                let refusal = key_test::test_key(bytes, rows, first, now.rows, 0);
                 if refusal != 0 {
                     return Step::Refused(refusal, now.at);
                 }
@@ -392,7 +391,7 @@ fn read_pairs(
                 mid,
             ) {
                 Step::Done(next) => {
-                    let refusal = keys::test_key(bytes, rows, first, now.rows, 1);
+                    let refusal = key_test::test_key(bytes, rows, first, now.rows, 1);
                     if refusal != 0 {
                         return Step::Refused(refusal, now.at);
                     }

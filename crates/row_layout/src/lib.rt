@@ -4,6 +4,7 @@
 ghost use mathlib.Core.Path.{_≡_};
 ghost use Prim.Native.Nat.{min};
 ghost use lib.ListN.{getD};
+ghost use Rattle.payload.specs.Shapes.{isKeyTag};
 ghost use Rattle.row_layout.specs.Digits.{entries};
 ghost use Rattle.row_layout.specs.Layout.{firstForm, secondForm, secondWord, underForm, countWord, firstTest, secondTest, underRules, usedWords};
 
@@ -84,4 +85,11 @@ pub fn used_words(tag: u64) -> u64
     ensures { λ r. ⌜ r ≡ usedWords tag ⌝ }
 {
     digit(tag, 0x2222_1113_4322_2221, 0x1111_1322_2222_2354, 0x134)
+}
+
+// Whether a row of this tag can be a key of a set or map.
+pub fn is_key_tag(tag: u64) -> bool
+    ensures { λ r. ⌜ r ≡ isKeyTag tag ⌝ }
+{
+    ((tag == 1) | ((3 <= tag) & (tag <= 6))) | ((19 <= tag) & (tag <= 24))
 }

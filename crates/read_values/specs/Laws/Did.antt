@@ -12,7 +12,7 @@ use Rattle.payload.specs.Rows.{itemsSpans, rootCount, rowTable, rowWidth, rowWo
 use Rattle.payload.specs.Spans.{Span}
 use Rattle.payload.specs.Tables.{spanWords}
 use Rattle.payload.specs.Trees.{Item, Node, Trees, cons, nodeOf, single}
-use Rattle.read_values.specs.Told.{RowTold, Told}
+use Rattle.key_test.specs.Told.{RowTold, Told}
 use Rattle.read_values.specs.Did.{View, manyTrees, oneTree, Ran, Did, stateOf}
 use Rattle.payload.specs.declared.Capacities.{Capacities}
 use Rattle.read_values.specs.declared.State.{State}

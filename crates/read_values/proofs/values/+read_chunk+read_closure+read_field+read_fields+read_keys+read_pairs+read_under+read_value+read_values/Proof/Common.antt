@@ -36,7 +36,7 @@ use Rattle.read_items.proofs.heads.read_closure_head.Reads as read-closure-head
 use Rattle.read_items.proofs.heads.read_field_head.Reads as read-field-head-reads
 use Rattle.read_items.proofs.heads.read_head.Reads as read-head-reads
 use Rattle.read_items.proofs.items.read_uvarint.Reads as read-uvarint-reads
-use Rattle.read_values.proofs.keys.test_key.Reads as test-key-reads
+use Rattle.key_test.proofs.test_key.Reads as test-key-reads
 use Rattle.read_values.proofs.rows.write_row.Reads as write-row-reads
 
 abbrev pub μ-read-chunk : Measures 5 read-chunk-kinds.ps ℕ

@@ -1,16 +1,16 @@
 -- `test_key` meets its contract: 9 before 10.
 use Rattle.payload.specs.Shapes.{isKeyTag}
 use Rattle.payload.specs.Rows.{rowWidth}
-use Rattle.read_values.specs.Keys.{keyRefusal}
-use Rattle.read_values.proofs.KeyTest.{at-zero}
+use Rattle.key_test.specs.Keys.{keyRefusal}
+use Rattle.key_test.proofs.KeyTest.{at-zero}
 use borrow.Author.Tests.{not-true, not-false}
 use Prim.Native.Nat.{_*_}
 use mathlib.Core.Path.{_≡_, sym, _∙_}
 use mathlib.Core.Bool.{true, false}
 use lib.ListN.{getD}
 use borrow.Author.Needs.{needs}
-use Rattle.read_values.proofs.keys.test_key.Statement.{statement}
-use Rattle.read_values.proofs.keys.test_key.Tie as tie
+use Rattle.key_test.proofs.test_key.Statement.{statement}
+use Rattle.key_test.proofs.test_key.Tie as tie
 
 returns : tie.Need-returns
 unfolding keyRefusal

@@ -1,7 +1,7 @@
 -- `part_stands` meets its contract: a part that is too long stands nowhere.
 use borrow.Author.Tests.{le-leb, lt-leb}
-use Rattle.read_values.proofs.keys.part_stands.Statement.{statement}
-use Rattle.read_values.proofs.keys.part_stands.Tie as tie
+use Rattle.key_test.proofs.part_stands.Statement.{statement}
+use Rattle.key_test.proofs.part_stands.Tie as tie
 
 returns : tie.Need-returns
 returns c = simp (lt-leb _ _ (c .if1 .taken))

@@ -1,11 +1,10 @@
-// The test of a key of a set or map against the keys before it.
+// The test of a key of a set or map: its tag, and the keys before it in the row table.
 ghost use mathlib.Core.Path.{_≡_};
 ghost use Prim.Native.Nat.{_+_, _-_, _*_, _≤_, min};
 ghost use lib.ListN.{length, drop};
 ghost use Rattle.payload.specs.Rows.{rowWidth};
-ghost use Rattle.payload.specs.Shapes.{isKeyTag};
-ghost use Rattle.read_values.specs.Keys.{stands, sameString, sameKey, mostRows, rowsTold, seenIn, keyRefusal};
-use crate::rows::ROW_WIDTH;
+ghost use Rattle.key_test.specs.Keys.{stands, sameString, sameKey, mostRows, rowsTold, seenIn, keyRefusal};
+use payload::Program;
 
 // Whether n bytes from o on stand in `bytes`.
 fn part_stands(bytes: &[u8], o: u64, n: u64) -> bool
@@ -42,8 +41,8 @@ fn same_key(bytes: &[u8], rows: &[u64], i: usize, j: usize) -> bool
     requires { ⌜ (rowWidth * i + rowWidth ≤ length (now rows)) × (rowWidth * j + rowWidth ≤ length (now rows)) ⌝ }
     ensures { λ r. ⌜ r ≡ sameKey (now (bytes .entry)) (drop (rowWidth * i) (now (rows .entry))) (drop (rowWidth * j) (now (rows .entry))) ⌝ }
 {
-    let key = ROW_WIDTH * i;
-    let other = ROW_WIDTH * j;
+    let key = Program::ROW_WIDTH * i;
+    let other = Program::ROW_WIDTH * j;
     let tag = rows[key];
     if tag != rows[other] {
         return false;
@@ -63,10 +62,10 @@ fn same_key(bytes: &[u8], rows: &[u64], i: usize, j: usize) -> bool
 fn capped(count: u64) -> u64
     ensures { λ r. ⌜ (r ≡ min mostRows count) × (r ≤ mostRows) ⌝ }
 {
-    if count < 1048576 {
+    if count < Program::ROWS as u64 {
         return count;
     }
-    1048576
+    Program::ROWS as u64
 }
 
 // How many rows row i tells right under it. The cap keeps the sums of `seen_in` small.
@@ -74,39 +73,24 @@ fn rows_told(rows: &[u64], i: usize) -> u64
     requires { ⌜ rowWidth * i + rowWidth ≤ length (now rows) ⌝ }
     ensures { λ r. ⌜ (r ≡ rowsTold (drop (rowWidth * i) (now (rows .entry)))) × (r ≤ 2 * mostRows) ⌝ }
 {
-    let at = ROW_WIDTH * i;
+    let at = Program::ROW_WIDTH * i;
     let tag = rows[at];
-    if tag < 7 {
+    let form = row_layout::under_form(tag);
+    if form == 0 {
         return 0;
     }
-    if tag == 7 {
+    if form == 1 {
         return 1;
     }
-    if tag == 8 {
-        return 0;
+    let word = row_layout::count_word(tag) as usize;
+    let count = capped(rows[at + word]);
+    if form == 3 {
+        return 2 * count;
     }
-    if tag < 12 {
-        return 1;
+    if form == 4 {
+        return 1 + count;
     }
-    if tag < 15 {
-        return capped(rows[at + 1]);
-    }
-    if tag == 15 {
-        return 2 * capped(rows[at + 1]);
-    }
-    if tag == 16 {
-        return capped(rows[at + 3]);
-    }
-    if tag == 18 {
-        return 1 + capped(rows[at + 2]);
-    }
-    if tag == 32 {
-        return capped(rows[at + 3]);
-    }
-    if tag == 33 {
-        return 1;
-    }
-    0
+    count
 }
 
 // Whether the key in row `own` equals one of the keys in the rows from `first` on: `gap` rows, with what is under them, stand between two keys.
@@ -131,30 +115,12 @@ fn seen_in(bytes: &[u8], rows: &[u64], first: usize, own: usize, gap: u64) -> bo
     false
 }
 
-fn is_key_tag(tag: u64) -> bool
-    ensures { λ r. ⌜ r ≡ isKeyTag tag ⌝ }
-{
-    if tag == 1 {
-        return true;
-    }
-    if tag < 3 {
-        return false;
-    }
-    if tag <= 6 {
-        return true;
-    }
-    if tag < 19 {
-        return false;
-    }
-    tag <= 24
-}
-
 // Refusal 9 or 10 of the key in row `own` of a set or map whose rows begin at `first`, or 0.
 pub fn test_key(bytes: &[u8], rows: &[u64], first: usize, own: usize, gap: u64) -> u64
     requires { ⌜ (rowWidth * own + rowWidth ≤ length (now rows)) × (first ≤ own) × (own ≤ mostRows) × (gap ≤ 1) ⌝ }
     ensures { λ r. ⌜ r ≡ keyRefusal (now (bytes .entry)) (now (rows .entry)) gap first own ⌝ }
 {
-    if !is_key_tag(rows[ROW_WIDTH * own]) {
+    if !row_layout::is_key_tag(rows[Program::ROW_WIDTH * own]) {
         return 9;
     }
     if seen_in(bytes, rows, first, own, gap) {

@@ -1,7 +1,7 @@
 -- `seen_in` meets its contract: the search from each row on finds what the search from the first row finds.
 use Rattle.payload.specs.Rows.{rowWidth}
-use Rattle.read_values.specs.Keys.{rowsTold, sameKey, seenIn}
-use Rattle.read_values.proofs.KeyTest.{seen-end, seen-same, seen-other, seen-skip}
+use Rattle.key_test.specs.Keys.{mostRows, rowsTold, sameKey, seenIn}
+use Rattle.key_test.proofs.KeyTest.{seen-end, seen-same, seen-other, seen-skip}
 use Prim.Native.Nat.{ℕ, suc, _+_, _-_, _*_, _≤_, _<_}
 use mathlib.Core.Path.{_≡_, sym, ap, _∙_}
 use mathlib.Core.Bool.{true, false}
@@ -9,14 +9,14 @@ use mathlib.Core.List.{List}
 use native.Mathlib.Omega.{arith}
 use lib.ListN.{drop}
 use borrow.Author.Needs.{needs}
-use Rattle.read_values.proofs.keys.seen_in.Statement.{statement}
-use Rattle.read_values.proofs.keys.seen_in.Tie as tie
+use Rattle.key_test.proofs.seen_in.Statement.{statement}
+use Rattle.key_test.proofs.seen_in.Tie as tie
 
 -- the search from here on finds what the search from the start finds
 record Searched (p rows : List ℕ) (first own gap skip i : ℕ) : Type 0 where
   from : first ≤ i
   upto : i ≤ own
-  small : skip ≤ 2097153 * (i - first)
+  small : skip ≤ (2 * mostRows + 1) * (i - first)
   found :
       seenIn p (drop (rowWidth * own) rows) gap 0 (own - first) (drop (rowWidth * first) rows)
       ≡ seenIn p (drop (rowWidth * own) rows) gap skip (own - i) (drop (rowWidth * i) rows)
@@ -41,7 +41,7 @@ module _ {p rows : List ℕ} {first own gap skip i : ℕ} (s : Searched p rows f
     found = zero-skip z ∙ seen-other p (drop (rowWidth * own) rows) gap rows own i h e;
   }
 
-  past : (skip ≡ 0 → ⊥) → (n : ℕ) → n ≡ rowsTold (drop (rowWidth * i) rows) → n ≤ 2097152 → Searched p rows first own gap (skip - 1 + n) (i + 1)
+  past : (skip ≡ 0 → ⊥) → (n : ℕ) → n ≡ rowsTold (drop (rowWidth * i) rows) → n ≤ 2 * mostRows → Searched p rows first own gap (skip - 1 + n) (i + 1)
   past z n e m =
       let a = s .from in
       let b = s .small in

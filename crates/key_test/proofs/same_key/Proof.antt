@@ -1,12 +1,12 @@
 -- `same_key` meets its contract: tags first, then the words after them.
 use Rattle.payload.specs.Rows.{rowWidth}
-use Rattle.read_values.proofs.KeyTest.{key-at}
+use Rattle.key_test.proofs.KeyTest.{key-at}
 use Prim.Native.Nat.{_*_}
 use mathlib.Core.Path.{sym, _∙_}
 use borrow.Author.Tests.{eq-eqb, ne-eqb}
 use borrow.Author.Needs.{needs}
-use Rattle.read_values.proofs.keys.same_key.Statement.{statement}
-use Rattle.read_values.proofs.keys.same_key.Tie as tie
+use Rattle.key_test.proofs.same_key.Statement.{statement}
+use Rattle.key_test.proofs.same_key.Tie as tie
 
 returns : tie.Need-returns
 returns c =

@@ -7,6 +7,7 @@ use lib.ListN.{drop, getD, length, take}
 use Rattle.slices.specs.Same.{same}
 use Rattle.payload.specs.Rows.{rowWidth}
 use Rattle.payload.specs.Shapes.{isKeyTag, shape}
+use Rattle.payload.specs.Tables.{limits}
 use Rattle.read_items.specs.Heads.{countIn, rowsUnder}
 
 -- a row's words stand at the front of the list
@@ -34,7 +35,7 @@ sameKey p row other =
 
 -- the most rows that a row is taken to tell
 abbrev pub mostRows : ℕ
-mostRows = 1048576
+mostRows = limits .rows
 
 -- how many rows a row tells right under it
 unfoldable pub rowsTold : List ℕ → ℕ

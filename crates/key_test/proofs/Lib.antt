@@ -1,0 +1,2 @@
+pub mod KeyTest
+pub mod RowsTold
