@@ -57,11 +57,11 @@ returns-2 c =
     let room = strings-fit _ _ _ _ (limits .ensures) in
     let n = count .0 .0 in
     let e : 2 * n - 0 ≡ 2 * n = omega arith in
-    let caps = capacities (limits .result) in
+    let capacities = limits .result in
     let fits = at-read-pool .before .before .before .if1 .left in
     rw (← limits .ensures)
-    (payload-leaves caps (x .names .now) (x .bytes .now) fits room read _ e (rw (at-counts .counts .given .1) at (at-read-script .read-script .ensures))
-    (pool-padded caps (x .names .now) (x .bytes .now) fits room read _ e (c .before .before .zero-u64-from2 .ensures)))
+    (payload-leaves capacities (x .names .now) (x .bytes .now) fits room read _ e (rw (at-counts .counts .given .1) at (at-read-script .read-script .ensures))
+    (pool-padded capacities (x .names .now) (x .bytes .now) fits room read _ e (c .before .before .zero-u64-from2 .ensures)))
 
 returns-3 : tie.Need-returns-3
 returns-3 c =
@@ -76,10 +76,10 @@ returns-3 c =
     let room = strings-fit _ _ _ _ (limits .ensures) in
     let n = count .0 .0 in
     let e : 2 * n - 0 ≡ 2 * n = omega arith in
-    let caps = capacities (limits .result) in
+    let capacities = limits .result in
     let fits = at-read-pool .before .before .before .if1 .left in
     rw (← limits .ensures)
-    (payload-leaves caps (x .names .now) (x .bytes .now) fits room read _ e (rw (at-n .n .given .1) at (at-read-script .read-script .ensures))
+    (payload-leaves capacities (x .names .now) (x .bytes .now) fits room read _ e (rw (at-n .n .given .1) at (at-read-script .read-script .ensures))
     (c .before .before .zero-u64-from3 .ensures ∙ zeroFrom-zero (read-pool .last .1 .0) ∙ ap zeros (read-pool .kept .1 .0)
     ∙ sym (padTo-nil (length (x .pool .now)))))
 
