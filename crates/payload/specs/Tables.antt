@@ -8,13 +8,14 @@ use lib.ListN.{length}
 use Rattle.slices.specs.Zeros.{padTo}
 use Rattle.payload.specs.Choice.{if_then_else_}
 use Rattle.payload.specs.Names.{isListed}
-use Rattle.payload.specs.Reader.{Part, Result, ok, refused, start}
+use Rattle.payload.specs.Reader.{Part, Result, State, ok, refused, start}
 use Rattle.payload.specs.Reading.{Payload, readPayload}
 use Rattle.payload.specs.declared.Capacities.{Capacities}
 use Rattle.payload.specs.Rows.{partWords, rowTable, rowWidth, spanTable}
 use Rattle.payload.specs.Sound.{Tables}
 use Rattle.payload.specs.Spans.{Span}
 use Rattle.payload.specs.Trees.{LineIndex, Script, single}
+use Rattle.payload.specs.declared.Counts.{Counts}
 use Rattle.payload.specs.declared.Read.{Read}
 use Rattle.payload.specs.declared.Read.the-variants as read
 
@@ -77,8 +78,9 @@ capacitiesOf rows spans starts pool = record {
 unfoldable pub reading : Capacities → List ℕ → List ℕ → Result Payload
 reading c names p = if ltb sizeLimit (length p) then refused 16 0 else readPayload c (isListed names) (start p)
 
-unfoldable pub readAnswer : Result Payload → Read
-readAnswer (ok u s) = read.Accepted (record {
+-- bytes consumed, used rows, spans, starts and strings, the line flag and the name's offset and length: 0 without a line index
+abbrev pub countsOf : Payload → State → Counts
+countsOf u s = record {
   consumed = s .place;
   rows = s .rows;
   spans = s .spans;
@@ -87,13 +89,12 @@ readAnswer (ok u s) = read.Accepted (record {
   flag = lineFlag (u .script .line);
   «name_o» = lineName (u .script .line) .offset;
   «name_n» = length (lineName (u .script .line) .bytes);
-})
-readAnswer (refused n p) = read.Refused n p
+}
 
--- 0, or the refusal's number
-abbrev pub readNumber : Read → ℕ
-readNumber (read.Accepted counts) = 0
-readNumber (read.Refused number place) = number
+-- its number and values are those of `readFields`
+unfoldable pub readAnswer : Result Payload → Read
+readAnswer (ok u s) = read.Accepted (countsOf u s)
+readAnswer (refused n p) = read.Refused n p
 
 unfoldable pub usedRows : Result Payload → List ℕ
 usedRows (ok u s) = rowTable (single (u .script .outer))

@@ -66,7 +66,7 @@ impl Program {
     // The most bytes of a payload, text, store or writing.
     pub const SIZE: usize = 16_777_216;
 
-    // The empty program. The contract also says that the constants above are the definitions' limits.
+    // The program of no rows, which a caller fills in with the counts of its tables. The contract also says that the constants above are the definitions' limits.
     pub fn empty() -> Self
         ensures { λ r. ⌜ r ≡ record { rows = 0; spans = 0; starts = 0; flag = 0; «name_o» = 0; «name_n» = 0 } ⌝ }
         ensures { λ _. do ⌜ limits ≡ record { rows = (← ⟦Program::ROWS⟧ .entry); spans = (← ⟦Program::SPANS⟧ .entry); strings = (← ⟦Program::STRINGS⟧ .entry); starts = (← ⟦Program::STARTS⟧ .entry) } ⌝ }

@@ -6,34 +6,32 @@ use mathlib.Core.Path.{_∙_, _≡_, ap, ap₂, refl, subst, sym}
 use Prim.Native.Nat.{_*_, _-_, _/_, _^_, _≤_, ℕ}
 use native.Mathlib.Omega.{arith}
 use lib.Dec.{ltb}
-use lib.ListN.{drop, length, length-append, take}
+use lib.ListN.{drop, length, take}
 use lib.Seq.{drop-length, take-at}
-use borrow.Author.Tests.{eqb-true}
 use Rattle.slices.specs.Laws.LittleEndian.{Bytes}
 use Rattle.slices.specs.Laws.Same.{same-refl}
 use Rattle.slices.specs.Zeros.{padTo}
 use Rattle.payload.specs.Choice.{_and_, if_then_else_}
-use Rattle.payload.specs.Demand3.{allItems, allOf}
 use Rattle.payload.specs.House.{checked, house, houseWritten, isOk}
 use Rattle.payload.specs.Laws.Demand3.{small-capacities}
 use Rattle.payload.specs.Laws.Equal.{single-bytes}
-use Rattle.payload.specs.Laws.Given.{length-span-words, small-span-table}
-use Rattle.payload.specs.Laws.House.{IsWriting, house-reads, is-named, is-ok, read-back, read-holds, reading-ok, small-trees}
-use Rattle.payload.specs.Laws.Kept.{TextsIn, itemRead}
-use Rattle.payload.specs.Laws.Pool.{and-both, and-left, and-right, false≢true}
-use Rattle.payload.specs.Laws.ReadSound.{ReadIs, read-is}
+use Rattle.payload.specs.Laws.Given.{small-span-table}
+use Rattle.payload.specs.Laws.House.{IsWriting, house-reads, is-named, is-ok, read-back, read-holds, read-strings, reading-ok, small-trees}
+use Rattle.payload.specs.Laws.Kept.{TextsIn}
+use Rattle.payload.specs.Laws.Pool.{and-both, false≢true}
+use Rattle.payload.specs.Laws.ReadSound.{ReadIs, read-is, rows-counted, spans-counted}
 use Rattle.payload.specs.Laws.Rules.{SoundScript}
-use Rattle.payload.specs.Laws.SoundTables.{holds-sound, obeyed-width}
+use Rattle.payload.specs.Laws.SoundTables.{holds-sound}
 use Rattle.payload.specs.Laws.Tables.{length-partsWords}
 use Rattle.payload.specs.Names.{isListed}
 use Rattle.payload.specs.Reader.{Part, Result, State, ok, refused, start}
 use Rattle.payload.specs.Reading.{Payload, readPayload}
 use Rattle.payload.specs.declared.Capacities.{Capacities}
-use Rattle.payload.specs.Rows.{itemsSpans, partWords, rowTable, rowWidth, spanTable}
+use Rattle.payload.specs.Rows.{partWords, rowTable, rowWidth, spanTable}
 use Rattle.payload.specs.Sound.{Tables, isNil, scriptOf, tables}
 use Rattle.payload.specs.Spans.{Span, smallSpans}
-use Rattle.payload.specs.Tables.{capacitiesOf, lineFlag, lineName, lineStarts, partsWords, readAnswer, reading, sizeLimit, spanWords, tablesOf, usedPool, usedRows, usedSpans, usedStarts}
-use Rattle.payload.specs.Trees.{Item, LineIndex, Script, Trees, code, forgetItem, forgetItems, forgetLine, forgetNode, forgetScript, forgetTrees, nativeName, nil, node, number, recordName, single, spanCount, spanItem, spanItems, startCount, string}
+use Rattle.payload.specs.Tables.{capacitiesOf, countsOf, lineStarts, partsWords, readAnswer, reading, sizeLimit, spanWords, tablesOf, usedPool, usedRows, usedSpans, usedStarts}
+use Rattle.payload.specs.Trees.{LineIndex, Script, forgetLine, forgetNode, forgetScript, single, startCount}
 use Rattle.payload.specs.Write.{internedParts}
 use Rattle.payload.specs.Writing.{gathered, poolOf}
 use Rattle.payload.specs.declared.Counts.{Counts}
@@ -47,7 +45,7 @@ use Rattle.gather.specs.Laws.Parts.{bytesOf}
 use Rattle.pool_check.specs.Order.{Met, meetAll}
 use Rattle.pool_check.specs.Laws.PoolEntries.{Entries, gathered-entries}
 use Rattle.pool_check.specs.Laws.PoolOrder.{Rising, interned-order, order-interned, pool-rises}
-use Rattle.pool_check.specs.Laws.PoolRead.{read-pool-interned, read-strings}
+use Rattle.pool_check.specs.Laws.PoolRead.{read-pool-interned}
 use Rattle.house.specs.Written.{AcceptedRead, allPositions, isWriting, poolWords}
 
 ---- the words of spans
@@ -57,46 +55,12 @@ unfolding allPositions spanWords smallSpans
 positions-are [] = refl
 positions-are (x ∷ ss) = ap (λ (b : Bool). ltb (x .start) (2 ^ 63) and ltb (x .end) (2 ^ 63) and b) (positions-are ss)
 
-items-spans : (is : List (Item Part)) → allOf itemRead (forgetItems is) ≡ true → length (itemsSpans is) ≡ spanItems (forgetItems is)
-unfolding allOf forgetItems forgetItem itemRead itemsSpans spanItems spanItem
-items-spans [] h = refl
-items-spans (number k w ∷ is) h = omega (arith, items-spans is (and-right _ _ h))
-items-spans (string b ∷ is) h = omega (arith, items-spans is (and-right _ _ h))
-items-spans (nativeName b ∷ is) h = omega (arith, items-spans is (and-right _ _ h))
-items-spans (recordName b ∷ is) h = omega (arith, items-spans is (and-right _ _ h))
-items-spans (code b ss ∷ is) h = omega (arith, length-append ss (itemsSpans is), items-spans is (and-right _ _ h), eqb-true (length ss) (length (b .bytes)) (and-left _ _ h))
-
--- one span for each byte of code that was read
-trees-spans : (ts : Trees Part) → allItems itemRead (forgetTrees ts) ≡ true → length (spanTable ts) ≡ spanCount (forgetTrees ts)
-unfolding allItems forgetTrees spanTable spanCount
-trees-spans nil h = refl
-trees-spans (node t is ks ts) h = omega (
-  arith,
-  length-append (itemsSpans is) (spanTable ks ++ spanTable ts),
-  length-append (spanTable ks) (spanTable ts),
-  items-spans is (and-left _ _ h),
-  trees-spans ks (and-left _ _ (and-right _ _ h)),
-  trees-spans ts (and-right _ _ (and-right _ _ h)),
-)
-
 strings-read : (p : List ℕ) (xs : List Part) → TextsIn p xs → plainStrings p (partsWords xs) ≡ bytesOf xs
 unfolding plainStrings partsWords partWords bytesAt TextsIn
 strings-read p [] h = refl
 strings-read p (x ∷ xs) h = ap₂ (λ (b : List ℕ) (l : List (List ℕ)). b ∷ l) (h .0 .text-stands .its-bytes) (strings-read p xs (h .1))
 
 ---- what an accepted read left
-
-abbrev countsOf : Payload → State → Counts
-countsOf u s = record {
-  consumed = s .place;
-  rows = s .rows;
-  spans = s .spans;
-  starts = length (lineStarts (u .script .line));
-  strings = length (u .pool);
-  flag = lineFlag (u .script .line);
-  «name_o» = lineName (u .script .line) .offset;
-  «name_n» = length (lineName (u .script .line) .bytes);
-}
 
 accepted-ok : (n : Counts) (x : Result Payload) → read.Accepted n ≡ readAnswer x → (u : Payload) × (s : State) × (x ≡ ok u s) × (n ≡ countsOf u s)
 unfolding readAnswer
@@ -115,22 +79,22 @@ start-count u = go (u .script .line)
     go (some x) = unfold startCount forgetLine lineStarts in refl
 
 abbrev pub readTables : List ℕ → Counts → List ℕ → List ℕ → List ℕ → Tables
-readTables p n rows spans starts = tables p (take (5 * n .rows) rows) (take (2 * n .spans) spans) (take (n .starts) starts) (n .flag) (n .«name_o») (n .«name_n»)
+readTables p n rows spans starts = tables p (take (rowWidth * n .rows) rows) (take (2 * n .spans) spans) (take (n .starts) starts) (n .flag) (n .«name_o») (n .«name_n»)
 
 -- the same as they are lent, from word 0 on
 abbrev pub lentTables : List ℕ → Counts → List ℕ → List ℕ → List ℕ → Tables
-lentTables p n rows spans starts = tables p (take (5 * n .rows - 0) rows) (take (2 * n .spans - 0) spans) (take (n .starts - 0) starts) (n .flag) (n .«name_o») (n .«name_n»)
+lentTables p n rows spans starts = tables p (take (rowWidth * n .rows - 0) rows) (take (2 * n .spans - 0) spans) (take (n .starts - 0) starts) (n .flag) (n .«name_o») (n .«name_n»)
 
 pub lent-words : (k : ℕ) (l : List ℕ) → take (k - 0) l ≡ take k l
 lent-words k l = let e : k - 0 ≡ k = omega arith in rw e
 
 pub lent-tables : (p : List ℕ) (n : Counts) (rows spans starts : List ℕ) → lentTables p n rows spans starts ≡ readTables p n rows spans starts
-lent-tables p n rows spans starts = λ i. tables p (lent-words (5 * n .rows) rows i) (lent-words (2 * n .spans) spans i) (lent-words (n .starts) starts i) (n .flag) (n .«name_o») (n .«name_n»)
+lent-tables p n rows spans starts = λ i. tables p (lent-words (rowWidth * n .rows) rows i) (lent-words (2 * n .spans) spans i) (lent-words (n .starts) starts i) (n .flag) (n .«name_o») (n .«name_n»)
 
 pub lent-met : (p : List ℕ) (n : Counts) (rows pool : List ℕ) {r : ℕ}
-    → Met (take (2 * n .strings - 0) pool) 0 (rowsParts p (length (take (5 * n .rows - 0) rows) / rowWidth) (take (5 * n .rows - 0) rows) ++ nameParts p (n .flag) (n .«name_o») (n .«name_n»)) r
-    → Met (take (2 * n .strings) pool) 0 (rowsParts p (length (take (5 * n .rows) rows) / rowWidth) (take (5 * n .rows) rows) ++ nameParts p (n .flag) (n .«name_o») (n .«name_n»)) r
-lent-met p n rows pool g = rw (lent-words (5 * n .rows) rows, lent-words (2 * n .strings) pool) at g
+    → Met (take (2 * n .strings - 0) pool) 0 (rowsParts p (length (take (rowWidth * n .rows - 0) rows) / rowWidth) (take (rowWidth * n .rows - 0) rows) ++ nameParts p (n .flag) (n .«name_o») (n .«name_n»)) r
+    → Met (take (2 * n .strings) pool) 0 (rowsParts p (length (take (rowWidth * n .rows) rows) / rowWidth) (take (rowWidth * n .rows) rows) ++ nameParts p (n .flag) (n .«name_o») (n .«name_n»)) r
+lent-met p n rows pool g = rw (lent-words (rowWidth * n .rows) rows, lent-words (2 * n .strings) pool) at g
 
 pub record WasRead (names p rows spans starts pool : List ℕ) (n : Counts) : Type 0 where
   pub u : Payload
@@ -144,7 +108,7 @@ pub record WasRead (names p rows spans starts pool : List ℕ) (n : Counts) : Ty
   pub spans-are : take (2 * n .spans) spans ≡ spanWords (spanTable (single (u .script .outer)))
   pub tables-are : readTables p n rows spans starts ≡ tablesOf p (u .script)
   pub pool-is : take (2 * n .strings) pool ≡ partsWords (u .pool)
-  pub rows-fit : 5 * n .rows ≤ length rows
+  pub rows-fit : rowWidth * n .rows ≤ length rows
   pub spans-fit : 2 * n .spans ≤ length spans
   pub starts-fit : n .starts ≤ length starts
   pub strings-fit : 2 * n .strings ≤ length pool
@@ -163,17 +127,17 @@ module _ {names p rows spans starts pool : List ℕ} {n : Counts} (h : AcceptedR
       let k = reading-ok c names p u s e in
       let f = read-is c p (isListed names) bytes u s (k .1) in
       let ts = single (u .script .outer) in
-      let rules = rw (← single-bytes (u .script .outer)) at (f .obeys) in
-      let read-items = rw (← single-bytes (u .script .outer)) at (f .items) in
-      let counted = rw (← single-bytes (u .script .outer)) at (f .spans-are) in
       let rows-n : n .rows ≡ s .rows = ap (λ (m : Counts). m .rows) (a .3) in
       let spans-n : n .spans ≡ s .spans = ap (λ (m : Counts). m .spans) (a .3) in
       let starts-n : n .starts ≡ length (lineStarts (u .script .line)) = ap (λ (m : Counts). m .starts) (a .3) in
       let strings-n : n .strings ≡ length (u .pool) = ap (λ (m : Counts). m .strings) (a .3) in
-      let r : take (5 * n .rows) rows ≡ rowTable ts = used-words rows (rowTable ts) (5 * n .rows) (h .left .rows-are ∙ ap (λ (x : Result Payload). padTo (length rows) (usedRows x)) e) (omega (arith, obeyed-width 32 ts rules, f .rows-are)) in
-      let q : take (2 * n .spans) spans ≡ spanWords (spanTable ts) = used-words spans (spanWords (spanTable ts)) (2 * n .spans) (h .left .spans-are ∙ ap (λ (x : Result Payload). padTo (length spans) (usedSpans x)) e) (omega (arith, length-span-words (spanTable ts), trees-spans ts read-items, counted)) in
-      let t : take (n .starts) starts ≡ lineStarts (u .script .line) = used-words starts (lineStarts (u .script .line)) (n .starts) (h .left .starts-are ∙ ap (λ (x : Result Payload). padTo (length starts) (usedStarts x)) e) (sym starts-n) in
-      let v : take (2 * n .strings) pool ≡ partsWords (u .pool) = used-words pool (partsWords (u .pool)) (2 * n .strings) (h .left .pool-is ∙ ap (λ (x : Result Payload). padTo (length pool) (usedPool x)) e) (omega (arith, length-partsWords (u .pool))) in
+      let r : take (rowWidth * n .rows) rows ≡ rowTable ts = used-words rows (rowTable ts) (rowWidth * n .rows) (h .left .rows-are ∙ ap (λ (x : Result Payload). padTo (length rows) (usedRows x)) e) (omega (arith, rows-counted f)) in
+      let q : take (2 * n .spans) spans ≡ spanWords (spanTable ts) = used-words spans (spanWords (spanTable ts)) (2 * n .spans) (h .left .spans-are ∙ ap (λ (x : Result Payload). padTo (length spans)
+      (usedSpans x)) e) (omega (arith, spans-counted f)) in
+      let t : take (n .starts) starts ≡ lineStarts (u .script .line) = used-words starts (lineStarts (u .script .line)) (n .starts) (h .left .starts-are ∙ ap (λ (x : Result Payload). padTo
+      (length starts) (usedStarts x)) e) (sym starts-n) in
+      let v : take (2 * n .strings) pool ≡ partsWords (u .pool) = used-words pool (partsWords (u .pool)) (2 * n .strings) (h .left .pool-is ∙ ap (λ (x : Result Payload). padTo (length pool)
+      (usedPool x)) e) (omega (arith, length-partsWords (u .pool))) in
       record {
         u = u;
         s = s;

@@ -28,7 +28,8 @@ unfolding capacitiesOf
 small-capacities rows spans starts pool = record { small-rows = omega arith; small-spans = omega arith; small-strings = omega arith; small-starts = omega arith }
 
 module _ (c : Capacities) (small : Small c) (names p : List ℕ) (bytes : Bytes p) where
-  is-writing : (T : Tables) (h : HouseProgram c names p T) → IsWriting c (isListed names) p (forgetScript (h .script))
+  -- its script, without the places of parts, has that writing
+  pub is-writing : (T : Tables) (h : HouseProgram c names p T) → IsWriting c (isListed names) p (forgetScript (h .script))
   is-writing T h = record { sound = sound-script T (h .script) (h .end) (h .sound); named = named-is (forgetScript (h .script)) (h .named); in-list = h .in-list; fits = h .held; its-writing = h .its-writing; within = h .short }
 
   -- the check passes a payload exactly when some sound program that the tables hold, with its native names listed, has exactly those bytes as its writing
@@ -37,12 +38,25 @@ module _ (c : Capacities) (small : Small c) (names p : List ℕ) (bytes : Bytes 
     where
       to : isOk (house c names p) ≡ true → (T : Tables) × HouseProgram c names p T
       to e = let x = house-reads c small names p bytes e in
-          let w = x .3 in
-          (tablesOf p (x .0 .script), record { script = x .0 .script; end = x .4; sound = x .5; small-store = unfold tablesOf in (w .within); in-list = w .in-list; held = w .fits; named = is-named _ (w .named); its-writing = w .its-writing; short = w .within })
+          let w = x .3 in (
+            tablesOf p (x .0 .script),
+            record {
+              script = x .0 .script;
+              end = x .4;
+              sound = x .5;
+              small-store = unfold tablesOf in (w .within);
+              in-list = w .in-list;
+              held = w .fits;
+              named = is-named _
+                  (w .named);
+              its-writing = w .its-writing;
+              short = w .within;
+            },
+          )
 
   -- then reading is accepted, takes every byte and gives that program, equal in everything
-  pub demand-3-back : (T : Tables) → HouseProgram c names p T
-      → (u : Payload) × (s : State) × (reading c names p ≡ ok u s) × (s .rest ≡ []) × (s .place ≡ length p) × Equal T (tablesOf p (u .script))
+  pub demand-3-back : (T : Tables) (h : HouseProgram c names p T)
+      → (u : Payload) × (s : State) × (reading c names p ≡ ok u s) × (s .rest ≡ []) × (s .place ≡ length p) × (forgetScript (u .script) ≡ forgetScript (h .script)) × Equal T (tablesOf p (u .script))
   unfolding Equal
   demand-3-back T h =
       let w = is-writing T h in
@@ -53,6 +67,7 @@ module _ (c : Capacities) (small : Small c) (names p : List ℕ) (bytes : Bytes 
         reading-short c names p (h .short) ∙ r .2,
         r .3,
         r .4,
+        r .5,
         view-holds T (h .script) (sound-holds T (h .script) (h .end) (h .sound)) (w .sound)
             ∙ ap viewScript (sym (r .5))
             ∙ sym (view-holds (tablesOf p (r .0 .script)) (r .0 .script) holds (rw (r .5) (w .sound))),

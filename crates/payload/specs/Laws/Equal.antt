@@ -20,7 +20,8 @@ use Rattle.payload.specs.Shapes.{ItemKind, kindsOf, shape}
 use Rattle.payload.specs.Sound.{Tables}
 use Rattle.payload.specs.Spans.{Span}
 use Rattle.payload.specs.Tables.{lineFlag, lineName, lineStarts, spanWords, tablesOf}
-use Rattle.payload.specs.Trees.{Item, LineIndex, Node, Script, Trees, code, forgetItem, forgetItems, forgetLine, forgetNode, forgetScript, forgetTrees, itemValue, kindOf, nativeName, nil, node, number, recordName, single, size, string}
+use Rattle.payload.specs.Trees.{Item, LineIndex, Node, Script, Trees, code, forgetItem, forgetItems, forgetLine, forgetNode, forgetScript, forgetTrees, itemValue, kindOf}
+use Rattle.payload.specs.Trees.{nativeName, nil, node, number, recordName, single, size, string}
 
 ---- the view of a script
 
@@ -108,7 +109,8 @@ view-trees s (node t is ks ts) k h =
     let a = row-table-width ks (k .1) in
     let l : length (rowWords t is (rootCount ks) ++ rowTable ks) ≡ rowWidth * suc (size ks) = length-append (rowWords t is (rootCount ks)) (rowTable ks) ∙ omega (arith, w, a) in
     view-append s (suc (size ks)) (size ts) (rowWords t is (rootCount ks) ++ rowTable ks) (rowTable ts) l
-    ∙ ap₂ _++_ (ap (λ (k : ℕ). viewRows s k (rowWords t is (rootCount ks) ++ rowTable ks)) one-more ∙ view-append s 1 (size ks) (rowWords t is (rootCount ks)) (rowTable ks) w ∙ ap₂ _++_ (view-one s _ w) (view-trees s ks (k .1) (h .1))) (view-trees s ts (k .2) (h .2))
+    ∙ ap₂ _++_ (ap (λ (k : ℕ). viewRows s k (rowWords t is (rootCount ks) ++ rowTable ks)) one-more ∙ view-append s 1 (size ks) (rowWords t is (rootCount ks)) (rowTable ks) w ∙ ap₂ _++_
+    (view-one s _ w) (view-trees s ks (k .1) (h .1))) (view-trees s ts (k .2) (h .2))
     ∙ ap (λ (x : List (List ℕ)). x ∷ (viewTrees (forgetTrees ks) ++ viewTrees (forgetTrees ts))) (view-row s t is (rootCount ks) (k .0) (h .0) ∙ rw (count-bytes ks))
 
 ---- the span table

@@ -1,6 +1,6 @@
 -- The house check over the definitions: it passes exactly the writings of sound scripts that fit and whose natives are listed.
 use mathlib.Core.Bool.{Bool, false, true}
-use mathlib.Core.List.{List, [], _++_, _∷_, append-assoc, append-nil}
+use mathlib.Core.List.{List, [], _++_, _∷_, append-assoc, append-nil, map}
 use mathlib.Core.Path.{_∙_, _≡_, ap, refl, sym}
 use Prim.Native.Nat.{_+_, _<_, _^_, _≤_, suc, zero, ℕ}
 use native.Mathlib.Nat.{zero-add}
@@ -22,20 +22,20 @@ use Rattle.payload.specs.Laws.Keeps.{invert, not-ok}
 use Rattle.payload.specs.Laws.Kept.{itemRead}
 use Rattle.payload.specs.Laws.Named.{all-named, named-all}
 use Rattle.payload.specs.Laws.Pool.{and-both, and-left, and-right, false≢true}
-use Rattle.payload.specs.Laws.ReadBack.{few-strings, gives-payload}
+use Rattle.payload.specs.Laws.ReadBack.{few-strings, gives-payload, pool-back}
 use Rattle.payload.specs.Laws.ReadSound.{read-is}
 use Rattle.payload.specs.Laws.Rules.{Named, Small, SoundScript, itemSound, lineRule, obeyRules}
 use Rattle.payload.specs.Laws.SoundTables.{Holds, holds-sound, sound-holds, sound-script}
 use Rattle.payload.specs.Laws.Varint.{gives-varint}
 use Rattle.payload.specs.Names.{isListed}
 use Rattle.payload.specs.Numbers.{varint}
-use Rattle.payload.specs.Reader.{Part, Result, State, _>>=_, _>>_, here, must, ok, refused, start}
-use Rattle.payload.specs.Reading.{Payload, readPayload, readPool, readString, readStrings}
+use Rattle.payload.specs.Reader.{Part, Result, State, _>>=_, _>>_, here, must, ok, pure, refused, start}
+use Rattle.payload.specs.Reading.{Payload, readChunk, readLineIndex, readPayload, readPool, readString, readStrings}
 use Rattle.payload.specs.declared.Capacities.{Capacities}
 use Rattle.payload.specs.Rows.{itemsSpans, spanTable}
 use Rattle.payload.specs.Sound.{Tables, isNil, scriptOf, spansOf}
 use Rattle.payload.specs.Spans.{Span, smallSpans}
-use Rattle.payload.specs.Tables.{reading, sizeLimit, spanWords, tablesOf}
+use Rattle.payload.specs.Tables.{limits, reading, sizeLimit, spanWords, tablesOf}
 use Rattle.payload.specs.Trees.{Item, Script, Trees, code, forgetItem, forgetItems, forgetLine, forgetNode, forgetScript, forgetTrees, nativeName, nil, node, number, recordName, single, size, spanCount, startCount, string}
 use Rattle.payload.specs.Writing.{concat, poolOf, writeLineIndex, writeStrings, writeTrees, writing}
 
@@ -78,6 +78,21 @@ module _ (c : Capacities) (small : Small c) (listed : List ℕ → Bool) (p : Li
       (omega (arith, h .fits .fit-rows)) (omega (arith, h .fits .fit-spans)) in
       let l : length (writing s) ≡ length p = ap length (h .its-writing) in
       (g .0, after (length (writing s)) (size (single (s .outer))) (spanCount (single (s .outer))) (start p), g .1, rw l (drop-length p), zero-add (length (writing s)) ∙ l, g .2)
+
+  -- the pool that was read has the strings of the writing's pool
+  pub read-strings : (u : Payload) (z : State) → readPayload c listed (start p) ≡ ok u z → IsWriting c listed p (forgetScript (u .script)) → map (λ (x : Part). x .bytes) (u .pool) ≡ poolOf (forgetScript (u .script))
+  unfolding readPayload _>>=_ pure
+  read-strings u z e w =
+      let s = forgetScript (u .script) in
+      let x = invert (readPool (c .strings) (start p)) _ u z e in
+      let y = invert (readChunk (record { capacities = c; pool = x .0; listed = listed }) (x .1)) _ u z (x .3) in
+      let v = invert (readLineIndex (record { capacities = c; pool = x .0; listed = listed }) (y .1)) _ u z (y .3) in
+      let short : length (writing s) < 2 ^ 64 = let q = ap length (w .its-writing) in omega (arith, w .within) in
+      let more = concat (writeTrees (poolOf s) (single (s .outer))) ++ writeLineIndex (poolOf s) (s .line) in
+      let g = pool-back c small listed s (w .sound) (w .named) (w .in-list) (w .fits) short .run (start p) more (unfold writing in sym (w .its-writing)) (omega arith) (omega arith) in
+      let a : g .0 ≡ x .0 = cc (g .1, x .2) in
+      let b : x .0 ≡ u .pool = cc (v .3) in
+      ap (map (λ (x : Part). x .bytes)) (sym b) ∙ ap (map (λ (x : Part). x .bytes)) (sym a) ∙ g .2
 
   -- the pool's count is the writing's
   pool-fits : (s : Script (List ℕ)) (u : Payload) (z : State) → writing s ≡ p → length p ≤ sizeLimit → readPayload c listed (start p) ≡ ok u z → length (poolOf s) ≤ c .strings
@@ -125,6 +140,16 @@ checked-ok p (ok u s) e = (u, s, refl, go (houseWritten p u s) e)
     go true e = refl
     go false e = false≢true e
 checked-ok p (refused n q) e = false≢true e
+
+-- a passing check leaves what the read gives
+pub check-passed : (p : List ℕ) (x : Result Payload) → isOk (checked p x) ≡ true → checked p x ≡ x
+unfolding checked isOk if_then_else_
+check-passed p (refused n q) e = refl
+check-passed p (ok u s) e = go (houseWritten p u s) e
+  where
+    go : (t : Bool) → isOk (if_then_else_ {A = Result Payload} t (ok u s) (refused 19 0)) ≡ true → if_then_else_ t (ok u s) (refused 19 0) ≡ ok u s
+    go true e = refl
+    go false e = false≢true e
 
 pub reading-ok : (c : Capacities) (names p : List ℕ) (u : Payload) (s : State) → reading c names p ≡ ok u s → (length p ≤ sizeLimit) × (readPayload c (isListed names) (start p) ≡ ok u s)
 unfolding reading if_then_else_
@@ -199,7 +224,8 @@ size-forget (node t is ks ts) = rw (size-forget ks, size-forget ts)
 
 module _ (c : Capacities) (small : Small c) (names p : List ℕ) (bytes : Bytes p) where
   -- what a passing check read is a script with the payload as its writing
-  pub house-reads : isOk (house c names p) ≡ true → (u : Payload) × (s : State) × (reading c names p ≡ ok u s) × IsWriting c (isListed names) p (forgetScript (u .script)) × (z : State) × (scriptOf (tablesOf p (u .script)) ≡ ok (u .script) z)
+  pub house-reads : isOk (house c names p) ≡ true → (u : Payload) × (s : State) × (reading c names p ≡ ok u s) × IsWriting c (isListed names) p (forgetScript (u .script)) × (z : State) × (scriptOf
+      (tablesOf p (u .script)) ≡ ok (u .script) z)
   unfolding house houseWritten forgetScript
   house-reads e = let x = checked-ok p (reading c names p) e in go (x .0) (x .1) (x .2) (x .3)
     where
@@ -254,9 +280,9 @@ module _ (c : Capacities) (small : Small c) (names p : List ℕ) (bytes : Bytes 
 ---- two sound scripts with one writing are one
 
 pub record Bounded (s : Script (List ℕ)) : Type 0 where
-  pub bound-rows : size (single (s .outer)) ≤ 1048576
-  pub bound-spans : spanCount (single (s .outer)) ≤ 16777216
-  pub bound-starts : startCount (s .line) ≤ 1048576
+  pub bound-rows : size (single (s .outer)) ≤ limits .rows
+  pub bound-spans : spanCount (single (s .outer)) ≤ limits .spans
+  pub bound-starts : startCount (s .line) ≤ limits .starts
   pub bound-writing : length (writing s) ≤ sizeLimit
 
 any-item : (i : Item (List ℕ)) → itemListed (λ b. true) i ≡ true
@@ -279,14 +305,15 @@ any-trees (node t is ks ts) = and-both (any-items is) (and-both (any-trees ks) (
 
 -- room for whatever a writing within the size limit holds
 abbrev most : Capacities
-most = record { rows = 1048576; spans = 16777216; strings = 16777216; starts = 1048576 }
+most = record { rows = limits .rows; spans = limits .spans; strings = sizeLimit; starts = limits .starts }
 
 small-most : Small most
 small-most = record { small-rows = omega arith; small-spans = omega arith; small-strings = omega arith; small-starts = omega arith }
 
 few-pooled : (s : Script (List ℕ)) → length (poolOf s) ≤ length (writing s)
 unfolding writing
-few-pooled s = let a : length (writing s) ≡ length (uleb128 (length (poolOf s))) + length (writeStrings (poolOf s)) + (length (concat (writeTrees (poolOf s) (single (s .outer)))) + length (writeLineIndex (poolOf s) (s .line))) = simp length-append in
+few-pooled s = let a : length (writing s) ≡ length (uleb128 (length (poolOf s))) + length (writeStrings (poolOf s)) + (length (concat (writeTrees (poolOf s) (single (s .outer)))) + length
+    (writeLineIndex (poolOf s) (s .line))) = simp length-append in
     let f = few-strings (poolOf s) in omega arith
 
 by-writing : (s : Script (List ℕ)) (p : List ℕ) → SoundScript s → Named s → Bounded s → writing s ≡ p → IsWriting most (λ b. true) p s

@@ -303,7 +303,8 @@ module _ (c : Capacities) (p : List ℕ) where
           keeps-bind c p (kept-many (isTag 33) d′ n _ (kept-untagged r R 33 (ItemKind.string ∷ []) oneValue (field-row d′))) (λ ts k′ m′ y.
           keeps-pure c p (nodeOf t is ts) (λ g k″ m″. NodeIs h d g (suc (k + (i + (k′ + k″)))) (m + (j + (m′ + m″))))
           (row-are w is ts k m k′ m′ _ _ z y (and-both (z .items-kinds) (y .trees-test)) (omega (arith, z .items-rows, x .0 .no-rows)) (omega (arith, x .0 .no-spans))))))
-      kept-shape {h} {d} {d′} r R t (withTemplate kinds) w = keeps-at c p (λ q. keeps-bind c p R (λ f a b o. keeps-check c p _ 11 q _ (λ is-function. keeps-bind c p (kept-items kinds) (λ is k m z. keeps-bind c p (keeps-varint c p) (λ n i j x.
+      kept-shape {h} {d} {d′} r R t (withTemplate kinds) w = keeps-at c p (λ q. keeps-bind c p R (λ f a b o. keeps-check c p _ 11 q _ (λ is-function. keeps-bind c p (kept-items kinds)
+          (λ is k m z. keeps-bind c p (keeps-varint c p) (λ n i j x.
           keeps-bind c p (kept-many isValueTag d′ n r R) (λ ts k′ m′ y. keeps-pure c p (nodeOf t is (cons f ts)) (λ g k″ m″. NodeIs h d g (suc (a + (k + (i + (k′ + k″))))) (b + (m + (j + (m′ + m″)))))
           (row-are w is (cons f ts) k m (a + k′) (b + m′) _ _ z (put-are (λ rs. true) f ts a b k′ m′ _ _ o y refl refl refl)
           (closure-rule kinds (forgetItems is) f ts (z .items-kinds) is-function (y .trees-test)) (omega (arith, z .items-rows, x .0 .no-rows)) (omega (arith, x .0 .no-spans)))))))))

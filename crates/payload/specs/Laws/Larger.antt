@@ -19,7 +19,7 @@ use Rattle.payload.specs.Reader.{Result, State, refused, start}
 use Rattle.payload.specs.Reading.{Payload, readPayload}
 use Rattle.payload.specs.declared.Capacities.{Capacities}
 use Rattle.payload.specs.Rows.{rowWidth}
-use Rattle.payload.specs.Tables.{capacitiesOf, reading, sizeLimit}
+use Rattle.payload.specs.Tables.{capacitiesOf, limits, reading, sizeLimit}
 
 -- d has at least the room of c
 pub record Larger (c d : Capacities) : Type 0 where
@@ -84,8 +84,8 @@ min-more a b n h = omega arith
 pub larger-loans : (rows spans starts pool rows′ spans′ starts′ pool′ : ℕ) → rows ≤ rows′ → spans ≤ spans′ → starts ≤ starts′ → pool ≤ pool′ → Larger (capacitiesOf rows spans starts pool) (capacitiesOf rows′ spans′ starts′ pool′)
 unfolding capacitiesOf
 larger-loans rows spans starts pool rows′ spans′ starts′ pool′ hr hs ht hp = record {
-  more-rows = min-more (rows / rowWidth) (rows′ / rowWidth) 1048576 (omega arith);
-  more-spans = min-more (spans / 2) (spans′ / 2) 16777216 (omega arith);
-  more-strings = min-more (pool / 2) (pool′ / 2) 1048576 (omega arith);
-  more-starts = min-more starts starts′ 1048576 ht;
+  more-rows = min-more (rows / rowWidth) (rows′ / rowWidth) (limits .rows) (omega arith);
+  more-spans = min-more (spans / 2) (spans′ / 2) (limits .spans) (omega arith);
+  more-strings = min-more (pool / 2) (pool′ / 2) (limits .strings) (omega arith);
+  more-starts = min-more starts starts′ (limits .starts) ht;
 }

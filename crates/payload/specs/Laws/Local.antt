@@ -52,7 +52,8 @@ scan-front first zero bytes at n next e = no-number 2 first n next e
 scan-front first (suc k) [] at n next e = no-number 1 first n next e
 scan-front first (suc k) (b ∷ bytes) at n next e = go (scan-front first k bytes (at + 1)) (ltb b 128) refl e
   where
-    more : ((m p : ℕ) → scan first k bytes (at + 1) ≡ Number m p → Front first k bytes (at + 1) m p) → ltb b 128 ≡ false → (v : Varint) → scan first k bytes (at + 1) ≡ v → under (b % 128) v ≡ Number n next → Front first (suc k) (b ∷ bytes) at n next
+    more : ((m p : ℕ) → scan first k bytes (at + 1) ≡ Number m p → Front first k bytes (at + 1) m p) → ltb b 128 ≡ false → (v : Varint) → scan first k bytes (at + 1) ≡ v → under
+        (b % 128) v ≡ Number n next → Front first (suc k) (b ∷ bytes) at n next
     more i h (Refused m p) q e = no-number m p n next e
     more i h (Number m p) q e = let f = i m p q in let z : p ≡ next = cc in record {
       front = b ∷ f .front;
@@ -62,7 +63,8 @@ scan-front first (suc k) (b ∷ bytes) at n next e = go (scan-front first k byte
       again = λ x. rw (h, f .again x) e;
     }
 
-    go : ((m p : ℕ) → scan first k bytes (at + 1) ≡ Number m p → Front first k bytes (at + 1) m p) → (t : Bool) → ltb b 128 ≡ t → cond t (Number b (at + 1)) (under (b % 128) (scan first k bytes (at + 1))) ≡ Number n next → Front first (suc k) (b ∷ bytes) at n next
+    go : ((m p : ℕ) → scan first k bytes (at + 1) ≡ Number m p → Front first k bytes (at + 1) m p) → (t : Bool) → ltb b 128 ≡ t → cond t (Number b (at + 1)) (under (b % 128) (scan first k bytes
+        (at + 1))) ≡ Number n next → Front first (suc k) (b ∷ bytes) at n next
     go i true h e = record { front = b ∷ []; rest = bytes; parts = refl; ends = let z : at + 1 ≡ next = cc in omega arith; again = λ x. rw h e }
     go i false h e = more i h (scan first k bytes (at + 1)) refl e
 

@@ -21,7 +21,8 @@ use Rattle.payload.specs.Choice.{_or_, if_then_else_}
 use Rattle.payload.specs.Laws.Gives.{Gives, gives-as, gives-bind, gives-body, gives-byte, gives-here, gives-is, gives-must, gives-pure, gives-then}
 use Rattle.payload.specs.Laws.Pool.{and-right}
 use Rattle.payload.specs.Laws.Varint.{gives-varint}
-use Rattle.payload.specs.Numbers.{NumberKind, bool, char, cutSigned, cutTested, cutTo, cutToSigned, f32, f64, fitsKind, fitsSigned, handle, i16, i32, i64, i8, isScalar, readFloat, readNumber, u16, u32, u64, u8, writeNumber, zigzagWord}
+use Rattle.payload.specs.Numbers.{NumberKind, bool, char, cutSigned, cutTested, cutTo, cutToSigned, f32, f64, fitsKind, fitsSigned, handle, i16, i32, i64, i8, isScalar}
+use Rattle.payload.specs.Numbers.{readFloat, readNumber, u16, u32, u64, u8, writeNumber, zigzagWord}
 use Rattle.payload.specs.declared.Capacities.{Capacities}
 
 or-cases : {C : Type 0} (a b : Bool) → (a or b) ≡ true → (a ≡ true → C) → (b ≡ true → C) → C

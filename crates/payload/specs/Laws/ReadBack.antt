@@ -131,7 +131,8 @@ module _ (l : List (List ℕ)) where
   unfolding treesStrings allItems
   in-trees nil f = refl
   in-trees (node t is ks ts) f = and-both (in-items is (in-left (itemsStrings is) (treesStrings ks ++ treesStrings ts) f))
-      (and-both (in-trees ks (in-left (treesStrings ks) (treesStrings ts) (in-right (itemsStrings is) (treesStrings ks ++ treesStrings ts) f))) (in-trees ts (in-right (treesStrings ks) (treesStrings ts) (in-right (itemsStrings is) (treesStrings ks ++ treesStrings ts) f))))
+      (and-both (in-trees ks (in-left (treesStrings ks) (treesStrings ts) (in-right (itemsStrings is) (treesStrings ks ++ treesStrings ts) f))) (in-trees ts (in-right (treesStrings ks)
+      (treesStrings ts) (in-right (itemsStrings is) (treesStrings ks ++ treesStrings ts) f))))
 
 -- the pool's strings are strings of the script
 interned-all : (f : List ℕ → Bool) (xs l : List (List ℕ)) → all f l ≡ true → all f xs ≡ true → all f (interned l xs) ≡ true
@@ -192,7 +193,8 @@ module _ (c : Capacities) (small : Small c) (listed : List ℕ → Bool) (s : Sc
     (short-writing : length (writing s) < 2 ^ 64) where
   pool-short : length (writeStrings (poolOf s)) < 2 ^ 64
   unfolding writing
-  pool-short = let e : length (writing s) ≡ length (uleb128 (length (poolOf s))) + length (writeStrings (poolOf s)) + (length (concat (writeTrees (poolOf s) (single (s .outer)))) + length (writeLineIndex (poolOf s) (s .line))) = simp length-append in
+  pool-short = let e : length (writing s) ≡ length (uleb128 (length (poolOf s))) + length (writeStrings (poolOf s)) + (length (concat (writeTrees (poolOf s) (single (s .outer)))) + length
+      (writeLineIndex (poolOf s) (s .line))) = simp length-append in
       omega arith
 
   pool-utf8 : all isUtf8 (poolOf s) ≡ true
@@ -235,7 +237,8 @@ module _ (c : Capacities) (small : Small c) (listed : List ℕ → Bool) (s : Sc
         (gives-pure _ (λ y. forgetLine y ≡ some x) (ap (λ (b : List ℕ). some (record { name = b; starts = x .starts })) z)))))
         (simp append-nil) refl refl)))
 
-    gives-rest : Gives c {A = Payload} (readChunk env >>= λ k. readLineIndex env >>= λ x. pure (record { pool = pool; script = record { outer = k; line = x } })) (concat (writeTrees (poolOf s) (single (s .outer))) ++ writeLineIndex (poolOf s) (s .line))
+    gives-rest : Gives c {A = Payload} (readChunk env >>= λ k. readLineIndex env >>= λ x. pure (record { pool = pool; script = record { outer = k; line = x } })) (concat (writeTrees (poolOf s) (single
+        (s .outer))) ++ writeLineIndex (poolOf s) (s .line))
         (size (single (s .outer))) (spanCount (single (s .outer))) (λ u. forgetScript (u .script) ≡ s)
     unfolding forgetScript gathered
     gives-rest = gives-as

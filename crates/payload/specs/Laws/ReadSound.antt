@@ -1,31 +1,37 @@
 -- What an accepted reading leaves is sound, but for positions of spans above 2^63 - 1.
 use mathlib.Core.Bool.{Bool, true}
-use mathlib.Core.List.{List, [], _∷_}
+use mathlib.Core.List.{List, [], _++_, _∷_}
 use mathlib.Core.Option.{Option, none, some}
-use mathlib.Core.Path.{_≡_, refl}
-use Prim.Native.Nat.{_%_, _+_, _^_, _≤_, suc, zero, ℕ}
+use mathlib.Core.Path.{_≡_, ap, refl}
+use Prim.Native.Nat.{_%_, _*_, _+_, _^_, _≤_, suc, zero, ℕ}
 use native.Mathlib.Nat.{mod-lt}
 use native.Mathlib.Omega.{arith}
 use lib.Dec.{lit<}
 use lib.IntN.{pos, ℤ}
-use lib.ListN.{drop, length}
+use lib.ListN.{drop, length, length-append}
 use borrow.Author.Tests.{eqb-true, lt-ltb, ltb-true}
 use Rattle.slices.specs.Laws.LittleEndian.{Bytes}
 use Rattle.varint.specs.Signed.{wordOf}
-use Rattle.payload.specs.Demand3.{Listed, allItems, itemListed}
+use Rattle.payload.specs.Demand3.{Listed, allItems, allOf, itemListed}
+use Rattle.payload.specs.Laws.Equal.{single-bytes}
+use Rattle.payload.specs.Laws.Given.{length-span-words}
 use Rattle.payload.specs.Laws.Keeps.{Keeps, Plain, Step, keeps-at, keeps-bind, keeps-body, keeps-byte, keeps-check, keeps-free, keeps-pure, keeps-value, keeps-varint}
 use Rattle.payload.specs.Laws.Kept.{NodeIs, TextIn, TextsIn, are-as, itemHeld, itemRead, kept-chunk, kept-index, kept-position, node-tag}
 use Rattle.payload.specs.Laws.Pool.{and-both, and-left, and-right}
 use Rattle.payload.specs.Laws.ReadBack.{all-items}
 use Rattle.payload.specs.Laws.Rules.{SoundScript, isTag, itemSound, lineRule, obeyRules}
 use Rattle.payload.specs.Laws.ScanWritten.{InTrees}
-use Rattle.payload.specs.Laws.SoundTables.{InLine}
+use Rattle.payload.specs.Laws.SoundTables.{InLine, obeyed-width}
 use Rattle.payload.specs.Reader.{Part, Reader, State, ok, start}
 use Rattle.payload.specs.Reading.{Payload, readFlagged, readLineIndex, readPayload, readPool, readStarts, readString, readStrings}
 use Rattle.payload.specs.declared.Capacities.{Capacities}
+use Rattle.payload.specs.Rows.{itemsSpans, rowTable, rowWidth, spanTable}
+use Rattle.payload.specs.Shapes.{depthLimit}
 use Rattle.payload.specs.Sound.{allStarts}
 use Rattle.payload.specs.Spans.{smallSpans}
-use Rattle.payload.specs.Trees.{Item, LineIndex, code, forgetLine, forgetNode, forgetScript, forgetTrees, nativeName, number, recordName, single, size, spanCount, startCount, string}
+use Rattle.payload.specs.Tables.{spanWords}
+use Rattle.payload.specs.Trees.{Item, LineIndex, Trees, code, forgetItem, forgetItems, forgetLine, forgetNode, forgetScript, forgetTrees, nativeName, nil, node, number}
+use Rattle.payload.specs.Trees.{recordName, single, size, spanCount, spanItem, spanItems, startCount, string}
 
 -- positions are at most 2^63 - 1
 unfoldable pub itemSmall : Item (List ℕ) → Bool
@@ -42,7 +48,7 @@ pub record ReadIs (c : Capacities) (p : List ℕ) (listed : List ℕ → Bool) (
   pub line-stands : InLine p (u .script .line)
   pub pool-stands : TextsIn p (u .pool)
   pub in-list : Listed listed (forgetScript (u .script))
-  pub obeys : obeyRules 32 (single (forgetScript (u .script) .outer)) ≡ true
+  pub obeys : obeyRules depthLimit (single (forgetScript (u .script) .outer)) ≡ true
   pub items : allItems itemRead (single (forgetScript (u .script) .outer)) ≡ true
   pub line : lineRule (forgetScript (u .script) .line) ≡ true
   pub rows-are : s .rows ≡ size (single (u .script .outer))
@@ -151,6 +157,43 @@ module _ (c : Capacities) (p : List ℕ) where
 pub read-is : (c : Capacities) (p : List ℕ) (listed : List ℕ → Bool) → Bytes p → (u : Payload) (s : State) → readPayload c listed (start p) ≡ ok u s → ReadIs c p listed u s
 read-is c p listed small u s e = read-step c p listed small u s (kept-payload c p listed small .run (start p) u s
     (record { inv-rest = refl; inv-place = omega arith; inv-rows = omega arith; inv-spans = omega arith }) e)
+
+---- the counts of an accepted read are those of the words that it leaves
+
+items-spans : (is : List (Item Part)) → allOf itemRead (forgetItems is) ≡ true → length (itemsSpans is) ≡ spanItems (forgetItems is)
+unfolding allOf forgetItems forgetItem itemRead itemsSpans spanItems spanItem
+items-spans [] h = refl
+items-spans (number k w ∷ is) h = omega (arith, items-spans is (and-right _ _ h))
+items-spans (string b ∷ is) h = omega (arith, items-spans is (and-right _ _ h))
+items-spans (nativeName b ∷ is) h = omega (arith, items-spans is (and-right _ _ h))
+items-spans (recordName b ∷ is) h = omega (arith, items-spans is (and-right _ _ h))
+items-spans (code b ss ∷ is) h = omega (arith, length-append ss (itemsSpans is), items-spans is (and-right _ _ h), eqb-true (length ss) (length (b .bytes)) (and-left _ _ h))
+
+-- one span for each byte of code that was read
+trees-spans : (ts : Trees Part) → allItems itemRead (forgetTrees ts) ≡ true → length (spanTable ts) ≡ spanCount (forgetTrees ts)
+unfolding allItems forgetTrees spanTable spanCount
+trees-spans nil h = refl
+trees-spans (node t is ks ts) h = omega (
+  arith,
+  length-append (itemsSpans is) (spanTable ks ++ spanTable ts),
+  length-append (spanTable ks) (spanTable ts),
+  items-spans is (and-left _ _ h),
+  trees-spans ks (and-left _ _ (and-right _ _ h)),
+  trees-spans ts (and-right _ _ (and-right _ _ h)),
+)
+
+module _ {c : Capacities} {p : List ℕ} {listed : List ℕ → Bool} {u : Payload} {s : State} (r : ReadIs c p listed u s) where
+  pub rows-counted : rowWidth * s .rows ≡ length (rowTable (single (u .script .outer)))
+  unfolding forgetScript
+  rows-counted = omega (arith, r .rows-are, obeyed-width depthLimit (single (u .script .outer)) (rw (single-bytes (u .script .outer)) (r .obeys)))
+
+  pub spans-counted : 2 * s .spans ≡ length (spanWords (spanTable (single (u .script .outer))))
+  unfolding forgetScript
+  spans-counted =
+      let e = single-bytes (u .script .outer) in
+      omega (arith, r .spans-are, length-span-words (spanTable (single (u .script .outer))), trees-spans (single (u .script .outer)) (rw e (r .items)), ap spanCount e)
+
+---- soundness
 
 sound-item : (i : Item (List ℕ)) → itemRead i ≡ true → itemSmall i ≡ true → itemSound i ≡ true
 unfolding itemRead itemSmall itemSound

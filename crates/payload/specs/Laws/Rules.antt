@@ -13,7 +13,7 @@ use Rattle.payload.specs.Numbers.{NumberKind-discrete, fitsKind}
 use Rattle.payload.specs.Pool.{isIn}
 use Rattle.payload.specs.Reader.{Part}
 use Rattle.payload.specs.declared.Capacities.{Capacities}
-use Rattle.payload.specs.Shapes.{ItemKind, ItemKind-discrete, Kids, Shape, isKeyTag, keys, noValue, oneValue, pairs, shape, values, withChunk, withFields, withKids, withTemplate}
+use Rattle.payload.specs.Shapes.{ItemKind, ItemKind-discrete, Kids, Shape, depthLimit, isKeyTag, keys, noValue, oneValue, pairs, shape, values, withChunk, withFields, withKids, withTemplate}
 use Rattle.payload.specs.Sound.{allStarts}
 use Rattle.payload.specs.Spans.{smallSpans}
 use Rattle.payload.specs.Trees.{Item, LineIndex, Script, Trees, code, keyOf, kindOf, nativeName, nil, node, number, recordName, single, string}
@@ -101,7 +101,7 @@ lineRule (some x) = isUtf8 (x .name) and allStarts (x .starts)
 -- the rules of soundness that are of the script and not of its tables
 pub record SoundScript (s : Script (List ℕ)) : Type 0 where
   pub outer-is-chunk : s .outer .tag ≡ 32
-  pub obeys : obeyRules 32 (single (s .outer)) ≡ true
+  pub obeys : obeyRules depthLimit (single (s .outer)) ≡ true
   pub items-sound : allItems (itemSound) (single (s .outer)) ≡ true
   pub line-sound : lineRule (s .line) ≡ true
 

@@ -18,7 +18,8 @@ use Rattle.payload.specs.Reader.{Part, Reader, _>>_, must, ok, pure}
 use Rattle.payload.specs.Reading.{nodeKey, readMany}
 use Rattle.payload.specs.declared.Capacities.{Capacities}
 use Rattle.payload.specs.Rows.{countWords, itemWords, itemsWords, kidsCountWords, partWords, rootCount, rowTable, rowWords, unusedWords}
-use Rattle.payload.specs.Scan.{RowScan, Test, anyRow, endRow, finishRow, firstWord, isFunction, newKey, nextWord, rowMust, scanCount, scanItem, scanItems, scanKeys, scanKids, scanOuter, scanPairs, scanPart, scanShape, scanString, scanUntagged, scanValue, scanWithKids, zeroWords}
+use Rattle.payload.specs.Scan.{RowScan, Test, anyRow, endRow, finishRow, firstWord, isFunction, newKey, nextWord, rowMust, scanCount, scanItem, scanItems, scanKeys, scanKids}
+use Rattle.payload.specs.Scan.{scanOuter, scanPairs, scanPart, scanShape, scanString, scanUntagged, scanValue, scanWithKids, zeroWords}
 use Rattle.payload.specs.Shapes.{ItemKind, Kids, Shape, keys, noValue, oneValue, pairs, shape, values, withChunk, withFields, withKids, withTemplate}
 use Rattle.payload.specs.Trees.{Item, Node, Trees, code, cons, forgetItem, forgetItems, forgetTrees, itemValue, itemsValue, keyOf, kindOf, nativeName, nil, node, nodeOf, number, recordName, size, string}
 
@@ -265,7 +266,8 @@ module _ (c : Capacities) (store : List ℕ) where
 
   gives-scan-vals : (d : ℕ) (r : RowScan) → ScanReads isValueTag d r → (g : Test) (t : ℕ) (kn : List ItemKind) (kk : Kids) (is : List (Item Part)) (ks : Trees Part)
       → sameKinds kn (forgetItems is) ≡ true → kidsRule kk (roots (forgetTrees ks)) ≡ true → g t (forgetItems (withoutSpansItems is)) ≡ true → InItems store is → allOf (itemSound) (forgetItems is) ≡ true → Known d ks
-      → Gives c (scanWithKids store r g t kn kk) ((itemsWords is ++ (kidsCountWords kk (rootCount ks) ++ replicate (unusedWords (withKids kn kk)) 0)) ++ rowTable ks) (suc (size ks)) 0 (λ u. u ≡ nodeOf t (withoutSpansItems is) (withoutSpans ks))
+      → Gives c (scanWithKids store r g t kn kk) ((itemsWords is ++ (kidsCountWords kk (rootCount ks) ++ replicate (unusedWords (withKids kn kk)) 0)) ++ rowTable ks) (suc (size ks)) 0
+      (λ u. u ≡ nodeOf t (withoutSpansItems is) (withoutSpans ks))
   unfolding scanWithKids
   gives-scan-vals d r R g t kn kk is ks a b o i s k = gives-as
       (gives-is _ (gives-scan-items kn is a i s)
@@ -296,7 +298,8 @@ module _ (c : Capacities) (store : List ℕ) where
 
   gives-scan-closure : (d : ℕ) (r : RowScan) → ScanReads isValueTag d r → (g : Test) (t : ℕ) (kn : List ItemKind) (is : List (Item Part)) (ks : Trees Part)
       → rowRule (withTemplate kn) (forgetItems is) (roots (forgetTrees ks)) ≡ true → g t (forgetItems (withoutSpansItems is)) ≡ true → InItems store is → allOf (itemSound) (forgetItems is) ≡ true → Known d ks
-      → Gives c (scanShape store r g t (withTemplate kn)) ((itemsWords is ++ (countWords (withTemplate kn) (rootCount ks) ++ replicate (unusedWords (withTemplate kn)) 0)) ++ rowTable ks) (suc (size ks)) 0 (λ u. u ≡ nodeOf t (withoutSpansItems is) (withoutSpans ks))
+      → Gives c (scanShape store r g t (withTemplate kn)) ((itemsWords is ++ (countWords (withTemplate kn) (rootCount ks) ++ replicate (unusedWords (withTemplate kn)) 0)) ++ rowTable ks) (suc
+      (size ks)) 0 (λ u. u ≡ nodeOf t (withoutSpansItems is) (withoutSpans ks))
   unfolding scanShape countWords rowRule roots forgetTrees rootCount rowTable size isFunction
   gives-scan-closure d r R g t kn is nil q o i s k = false≢true q
   gives-scan-closure d r R g t kn is (node ft fi fk ks) q o i s k = gives-as

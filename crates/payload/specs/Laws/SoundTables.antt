@@ -12,7 +12,8 @@ use lib.Seq.{drop-length, length-take-le, take-all}
 use borrow.Author.Tests.{eq-eqb, eqb-true, le-leb, leb-true}
 use Rattle.payload.specs.Choice.{_and_, if_then_else_}
 use Rattle.payload.specs.Demand3.{allItems}
-use Rattle.payload.specs.Laws.Given.{given-back, in-given, length-span-table, length-span-words, length-spans-of, obey-given, row-table-given, small-span-table, sound-given, span-count-without, span-table-given, spans-of-words, words-of-spans}
+use Rattle.payload.specs.Laws.Given.{given-back, in-given, length-span-table, length-span-words, length-spans-of, obey-given, row-table-given, small-span-table, sound-given}
+use Rattle.payload.specs.Laws.Given.{span-count-without, span-table-given, spans-of-words, words-of-spans}
 use Rattle.payload.specs.Laws.Gives.{Gives, after, gives-as}
 use Rattle.payload.specs.Laws.Keeps.{invert, not-ok}
 use Rattle.payload.specs.Laws.Pool.{and-both, and-left, and-right, false≢true}
@@ -193,7 +194,8 @@ unfolding lineSound lineOf if_then_else_ lineStarts lineFlag lineName InLine lin
 line-holds T none h = (rw (h .flag-is) (and-both (eq-eqb _ _ (h .offset-is)) (and-both (eq-eqb _ _ (h .length-is)) (rw (h .starts-are)))), rw (h .flag-is))
 line-holds T (some x) h =
     let b : take (T .nameLength) (drop (T .nameOffset) (T .store)) ≡ x .name .bytes = rw (h .length-is, h .offset-is) (h .name-in .its-bytes) in (
-      rw (h .flag-is) (and-both refl (and-both (le-leb (T .nameOffset + T .nameLength) (length (T .store)) (rw (h .offset-is, h .length-is) (h .name-in .in-store))) (and-both (rw b (and-left _ _ (h .obeys))) (rw (h .starts-are) (and-right _ _ (h .obeys)))))),
+      rw (h .flag-is) (and-both refl (and-both (le-leb (T .nameOffset + T .nameLength) (length (T .store)) (rw (h .offset-is, h .length-is) (h .name-in .in-store))) (and-both (rw b (and-left _ _
+          (h .obeys))) (rw (h .starts-are) (and-right _ _ (h .obeys)))))),
       rw (h .flag-is) (λ i. some (record { name = record { offset = h .offset-is i; bytes = b i }; starts = h .starts-are i })),
     )
 

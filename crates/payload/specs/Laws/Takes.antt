@@ -19,7 +19,8 @@ use Rattle.payload.specs.Numbers.{NumberKind-discrete, fitsKind}
 use Rattle.payload.specs.Reader.{Part, Reader, Result, State, _>>=_, _>>_, advanced, andThen, must, ok, pure, withRow}
 use Rattle.payload.specs.Reading.{nodeKey, readMany}
 use Rattle.payload.specs.Rows.{countWords, itemWords, itemsWords, kidsCountWords, partWords, rootCount, rowTable, rowWords, unusedWords}
-use Rattle.payload.specs.Scan.{RowScan, Test, anyRow, endRow, finishRow, firstWord, isFunction, newKey, nextWord, rowMust, scanCount, scanItem, scanItems, scanKeys, scanKids, scanOuter, scanPairs, scanPart, scanShape, scanString, scanUntagged, scanValue, scanWithKids, zeroWords}
+use Rattle.payload.specs.Scan.{RowScan, Test, anyRow, endRow, finishRow, firstWord, isFunction, newKey, nextWord, rowMust, scanCount, scanItem, scanItems, scanKeys, scanKids}
+use Rattle.payload.specs.Scan.{scanOuter, scanPairs, scanPart, scanShape, scanString, scanUntagged, scanValue, scanWithKids, zeroWords}
 use Rattle.payload.specs.Shapes.{ItemKind, ItemKind-discrete, Kids, Shape, keys, noValue, oneValue, pairs, shape, values, withChunk, withFields, withKids, withTemplate}
 use Rattle.payload.specs.Trees.{Item, Node, Trees, code, cons, forgetItem, forgetItems, forgetTrees, kindOf, nativeName, nil, nodeOf, number, recordName, string}
 
@@ -107,7 +108,8 @@ pub put-pairs : (seen : List (List ℕ)) (u v : Node Part) (ts : Trees Part) →
 unfolding allTags roots forgetTrees cons distinctPairs nodeKey
 put-pairs seen u v ts x y w z = and-both (and-both x (and-both w (and-left _ _ z))) (and-both (and-left _ _ y) (and-both (and-right _ _ y) (and-right _ _ z)))
 
-pub closure-rule : (kn : List ItemKind) (is : List (Item (List ℕ))) (f : Node Part) (ts : Trees Part) → sameKinds kn is ≡ true → eqb (f .tag) 7 ≡ true → allValues (roots (forgetTrees ts)) ≡ true → rowRule (withTemplate kn) is (roots (forgetTrees (cons f ts))) ≡ true
+pub closure-rule : (kn : List ItemKind) (is : List (Item (List ℕ))) (f : Node Part) (ts : Trees Part) → sameKinds kn is ≡ true → eqb (f .tag) 7 ≡ true → allValues (roots (forgetTrees ts)) ≡ true
+    → rowRule (withTemplate kn) is (roots (forgetTrees (cons f ts))) ≡ true
 unfolding rowRule roots forgetTrees cons
 closure-rule kn is f ts a b e = and-both a (and-both b e)
 
@@ -143,7 +145,13 @@ module _ (store : List ℕ) where
 
   takes-item : (k : ItemKind) → Takes (scanItem store k) (ItemT k)
   unfolding scanItem itemWords kindOf forgetItem InItem itemRowSound
-  takes-item (ItemKind.number k) = takes-bind takes-word (λ w ws e. takes-row-check _ _ (λ z. takes-pure _ (λ i us. ItemT (ItemKind.number k) i (ws ++ us)) (record { i-words = append-nil ws ∙ e; i-kind = sameKind-self _; i-in = tt; i-sound = z })))
+  takes-item (ItemKind.number k) = takes-bind takes-word (λ w ws e. takes-row-check _ _ (λ z. takes-pure _ (λ i us. ItemT (ItemKind.number k) i (ws ++ us)) (record {
+    i-words = append-nil ws
+        ∙ e;
+    i-kind = sameKind-self _;
+    i-in = tt;
+    i-sound = z;
+  })))
   takes-item ItemKind.string = takes-bind takes-text (λ l ws e. takes-pure _ (λ i us. ItemT ItemKind.string i (ws ++ us)) (record { i-words = append-nil ws ∙ e .0; i-kind = sameKind-self _; i-in = e .1; i-sound = e .2 }))
   takes-item ItemKind.nativeName = takes-bind takes-text (λ l ws e. takes-pure _ (λ i us. ItemT ItemKind.nativeName i (ws ++ us)) (record { i-words = append-nil ws ∙ e .0; i-kind = sameKind-self _; i-in = e .1; i-sound = e .2 }))
   takes-item ItemKind.recordName = takes-bind takes-text (λ l ws e. takes-pure _ (λ i us. ItemT ItemKind.recordName i (ws ++ us)) (record { i-words = append-nil ws ∙ e .0; i-kind = sameKind-self _; i-in = e .1; i-sound = e .2 }))
@@ -204,9 +212,11 @@ module _ (store : List ℕ) where
       takes-pure (cons u ts) (λ ts us. TreesT d ts (ws ++ (vs ++ us)) × (allTags h (roots (forgetTrees ts)) ≡ true) × (rootCount ts ≡ suc n))
       (cons-T h g d u ts ws (vs ++ []) a (cast-T d ts vs (vs ++ []) (sym (append-nil vs)) (b .0)), put-tags h u ts (a .n-tag) (b .1), put-count u ts n (b .2))))
 
-  takes-keys : (d : ℕ) (r : RowScan) → ScanT d r → (n : ℕ) (seen : List (List ℕ)) → Takes (scanKeys n seen r) (λ ts ws. TreesT d ts ws × ((allValues (roots (forgetTrees ts)) and distinctKeys seen (roots (forgetTrees ts))) ≡ true) × (rootCount ts ≡ n))
+  takes-keys : (d : ℕ) (r : RowScan) → ScanT d r → (n : ℕ) (seen : List (List ℕ)) → Takes (scanKeys n seen r) (λ ts ws. TreesT d ts ws × ((allValues (roots (forgetTrees ts)) and distinctKeys seen
+      (roots (forgetTrees ts))) ≡ true) × (rootCount ts ≡ n))
   unfolding scanKeys
-  takes-keys d r R zero seen = takes-pure nil (λ ts ws. TreesT d ts ws × ((allValues (roots (forgetTrees ts)) and distinctKeys seen (roots (forgetTrees ts))) ≡ true) × (rootCount ts ≡ 0)) (nil-T d, unfold allTags roots forgetTrees distinctKeys _and_ in refl, unfold rootCount in refl)
+  takes-keys d r R zero seen = takes-pure nil (λ ts ws. TreesT d ts ws × ((allValues (roots (forgetTrees ts)) and distinctKeys seen (roots (forgetTrees ts))) ≡ true) × (rootCount ts ≡ 0))
+      (nil-T d, unfold allTags roots forgetTrees distinctKeys _and_ in refl, unfold rootCount in refl)
   takes-keys d r R (suc n) seen = takes-bind (R (newKey seen)) (λ u ws a. takes-bind (takes-keys d r R n (nodeKey u ∷ seen)) (λ ts vs b.
       takes-pure (cons u ts) (λ ts us. TreesT d ts (ws ++ (vs ++ us)) × ((allValues (roots (forgetTrees ts)) and distinctKeys seen (roots (forgetTrees ts))) ≡ true) × (rootCount ts ≡ suc n))
       (cons-T isValueTag (newKey seen) d u ts ws (vs ++ []) a (cast-T d ts vs (vs ++ []) (sym (append-nil vs)) (b .0)), put-keys seen u ts (a .n-tag) (a .n-test) (b .1), put-count u ts n (b .2))))
@@ -293,7 +303,8 @@ module _ (store : List ℕ) where
 
   takes-vals : (d : ℕ) (r : RowScan) → ScanT d r → (g : Test) (t : ℕ) (kn : List ItemKind) (kk : Kids) → Takes (scanWithKids store r g t kn kk) (BodyT (withKids kn kk) g d t)
   unfolding scanWithKids nodeOf countWords rowRule
-  takes-vals d r R g t kn kk = takes-bind (takes-items kn) (λ is ws a. takes-bind (takes-count kk) (λ n vs b. takes-then (takes-finish (unusedWords (withKids kn kk)) (g t (forgetItems is))) (λ u xs x. takes-bind (takes-kids d r R kk n) (λ ts ys y.
+  takes-vals d r R g t kn kk = takes-bind (takes-items kn) (λ is ws a. takes-bind (takes-count kk) (λ n vs b. takes-then (takes-finish (unusedWords (withKids kn kk)) (g t (forgetItems is)))
+      (λ u xs x. takes-bind (takes-kids d r R kk n) (λ ts ys y.
       takes-pure (nodeOf t is ts) (λ u us. BodyT (withKids kn kk) g d t u (ws ++ (vs ++ (xs ++ (ys ++ us)))))
       (record {
         b-tag = refl;
@@ -355,11 +366,13 @@ module _ (store : List ℕ) where
 
   takes-32 : (d : ℕ) (r : RowScan) → ScanT d r → Takes (scanUntagged store r 32 (ItemKind.code ∷ []) values) (NodeT (isTag 32) (anyRow) d)
   unfolding scanUntagged
-  takes-32 d r R = takes-bind takes-word (λ t xs e. takes-row-check _ _ (λ z. takes-so _ (λ u ws b. head-cast (isTag 32) (anyRow) d u 32 t xs ws e (eqb-true t 32 z) (wrap-32 d (anyRow) u ws b)) (takes-vals d r R (anyRow) 32 (ItemKind.code ∷ []) values)))
+  takes-32 d r R = takes-bind takes-word (λ t xs e. takes-row-check _ _ (λ z. takes-so _ (λ u ws b. head-cast (isTag 32) (anyRow) d u 32 t xs ws e (eqb-true t 32 z) (wrap-32 d (anyRow) u ws b))
+      (takes-vals d r R (anyRow) 32 (ItemKind.code ∷ []) values)))
 
   takes-33 : (d : ℕ) (r : RowScan) → ScanT d r → Takes (scanUntagged store r 33 (ItemKind.string ∷ []) oneValue) (NodeT (isTag 33) (anyRow) d)
   unfolding scanUntagged
-  takes-33 d r R = takes-bind takes-word (λ t xs e. takes-row-check _ _ (λ z. takes-so _ (λ u ws b. head-cast (isTag 33) (anyRow) d u 33 t xs ws e (eqb-true t 33 z) (wrap-33 d (anyRow) u ws b)) (takes-vals d r R (anyRow) 33 (ItemKind.string ∷ []) oneValue)))
+  takes-33 d r R = takes-bind takes-word (λ t xs e. takes-row-check _ _ (λ z. takes-so _ (λ u ws b. head-cast (isTag 33) (anyRow) d u 33 t xs ws e (eqb-true t 33 z) (wrap-33 d (anyRow) u ws b))
+      (takes-vals d r R (anyRow) 33 (ItemKind.string ∷ []) oneValue)))
 
   three : (ws xs ys a z f : List ℕ) → ws ≡ a → xs ≡ z → ys ≡ f → ws ++ (xs ++ (ys ++ [])) ≡ (a ++ ([] ++ z)) ++ f
   three ws xs ys a z f p r s = rw (p, r, s) (simp (append-assoc, append-nil))
@@ -378,7 +391,8 @@ module _ (store : List ℕ) where
   takes-shape : (d : ℕ) (r : RowScan) → ScanT d r → (g : Test) (t : ℕ) (sh : Shape) → Takes (scanShape store r g t sh) (BodyT sh g d t)
   unfolding scanShape nodeOf
   takes-shape d r R g t (withKids kn kk) = takes-vals d r R g t kn kk
-  takes-shape d r R g t (withChunk kn) = takes-bind (takes-items kn) (λ is ws a. takes-then (takes-finish (unusedWords (withChunk kn)) (g t (forgetItems is))) (λ u xs x. takes-bind (takes-times (isTag 32) (anyRow) d _ (takes-32 d r R) 1) (λ ts ys y.
+  takes-shape d r R g t (withChunk kn) = takes-bind (takes-items kn) (λ is ws a. takes-then (takes-finish (unusedWords (withChunk kn)) (g t (forgetItems is))) (λ u xs x. takes-bind (takes-times
+      (isTag 32) (anyRow) d _ (takes-32 d r R) 1) (λ ts ys y.
       takes-pure (nodeOf t is ts) (λ u us. BodyT (withChunk kn) g d t u (ws ++ (xs ++ (ys ++ us))))
       (record {
         b-tag = refl;
@@ -391,7 +405,8 @@ module _ (store : List ℕ) where
         b-kids = y .0 .t-in;
         b-kids-sound = y .0 .t-sound;
       }))))
-  takes-shape d r R g t (withFields kn) = takes-bind (takes-items kn) (λ is ws a. takes-bind takes-word (λ n vs b. takes-then (takes-finish (unusedWords (withFields kn)) (g t (forgetItems is))) (λ u xs x. takes-bind (takes-times (isTag 33) (anyRow) d _ (takes-33 d r R) n) (λ ts ys y.
+  takes-shape d r R g t (withFields kn) = takes-bind (takes-items kn) (λ is ws a. takes-bind takes-word (λ n vs b. takes-then (takes-finish (unusedWords (withFields kn)) (g t (forgetItems is)))
+      (λ u xs x. takes-bind (takes-times (isTag 33) (anyRow) d _ (takes-33 d r R) n) (λ ts ys y.
       takes-pure (nodeOf t is ts) (λ u us. BodyT (withFields kn) g d t u (ws ++ (vs ++ (xs ++ (ys ++ us)))))
       (record {
         b-tag = refl;
@@ -404,13 +419,15 @@ module _ (store : List ℕ) where
         b-kids = y .0 .t-in;
         b-kids-sound = y .0 .t-sound;
       })))))
-  takes-shape d r R g t (withTemplate kn) = takes-bind (takes-items kn) (λ is ws a. takes-bind takes-word (λ n vs b. takes-then (takes-finish (unusedWords (withTemplate kn)) (g t (forgetItems is))) (λ u xs x. takes-bind (R (isFunction)) (λ f fs o.
+  takes-shape d r R g t (withTemplate kn) = takes-bind (takes-items kn) (λ is ws a. takes-bind takes-word (λ n vs b. takes-then (takes-finish (unusedWords (withTemplate kn)) (g t (forgetItems is)))
+      (λ u xs x. takes-bind (R (isFunction)) (λ f fs o.
       takes-bind (takes-times isValueTag (anyRow) d _ (R (anyRow)) n) (λ ts ys y.
       takes-pure (nodeOf t is (cons f ts)) (λ u us. BodyT (withTemplate kn) g d t u (ws ++ (vs ++ (xs ++ (fs ++ (ys ++ us))))))
       (let k = cons-T isValueTag (isFunction) d f ts fs ys o (y .0) in
       record {
         b-tag = refl;
-        b-words = five ws vs xs fs ys _ _ _ _ _ (a .is-words) (b ∙ closure-count kn f ts n (y .2)) (x .0) (o .n-words) (y .0 .t-words) ∙ ap (λ (z : List ℕ). (itemsWords is ++ (countWords (withTemplate kn) (rootCount (cons f ts)) ++ replicate (unusedWords (withTemplate kn)) 0)) ++ z) (sym (flat-put f ts));
+        b-words = five ws vs xs fs ys _ _ _ _ _ (a .is-words) (b ∙ closure-count kn f ts n (y .2)) (x .0) (o .n-words) (y .0 .t-words) ∙ ap (λ (z : List ℕ). (itemsWords is ++ (countWords
+            (withTemplate kn) (rootCount (cons f ts)) ++ replicate (unusedWords (withTemplate kn)) 0)) ++ z) (sym (flat-put f ts));
         b-test = x .1;
         b-rule = closure-rule kn (forgetItems is) f ts (a .is-kinds) (unfold isFunction in (o .n-test)) (y .1);
         b-items = a .is-in;
@@ -423,7 +440,8 @@ module _ (store : List ℕ) where
   takes-value : (d : ℕ) → ScanT d (scanValue store d)
   unfolding scanValue
   takes-value zero g = takes-bind takes-word (λ t xs e. takes-row-check _ _ (λ z. false≢true z))
-  takes-value (suc d) g = takes-bind takes-word (λ t xs e. takes-row-check _ _ (λ z. takes-so _ (λ u ws b. head-cast isValueTag g (suc d) u t t xs ws e refl (value-T d g u ws t z b)) (takes-shape d (scanValue store d) (takes-value d) g t (shape t))))
+  takes-value (suc d) g = takes-bind takes-word (λ t xs e. takes-row-check _ _ (λ z. takes-so _ (λ u ws b. head-cast isValueTag g (suc d) u t t xs ws e refl (value-T d g u ws t z b)) (takes-shape d
+      (scanValue store d) (takes-value d) g t (shape t))))
 
   -- an accepted scan took exactly the rows of the chunk that it gives, and that chunk obeys the rules of rows
   pub scan-took : Takes (scanOuter store) (NodeT (isTag 32) (anyRow) 32)

@@ -2,23 +2,21 @@
 use mathlib.Core.Bool.{Bool, false, true}
 use mathlib.Core.List.{List, [], _++_, _∷_}
 use mathlib.Core.Path.{_∙_, _≡_, ap, refl, sym}
-use Prim.Native.Nat.{_<_, _^_, zero, suc, ℕ}
+use Prim.Native.Nat.{_<_, zero, suc, ℕ}
 use native.Mathlib.Omega.{arith}
 use lib.ListN.{List·getD-map, getD, length, length-map}
 use lib.Seq.{ext-getD}
 use Rattle.slices.specs.Laws.Same.{same-refl}
 use Rattle.slices.specs.Same.{same}
 use Rattle.payload.specs.Choice.{if_then_else_}
-use Rattle.payload.specs.Laws.House.{IsWriting}
-use Rattle.payload.specs.Laws.Keeps.{invert}
-use Rattle.payload.specs.Laws.ReadBack.{pool-back}
+use Rattle.payload.specs.Laws.House.{IsWriting, read-strings}
 use Rattle.payload.specs.Laws.Rules.{Small}
-use Rattle.payload.specs.Reader.{Part, State, _>>=_, ok, pure, start}
-use Rattle.payload.specs.Reading.{Payload, readChunk, readLineIndex, readPayload, readPool}
+use Rattle.payload.specs.Reader.{Part, State, ok, start}
+use Rattle.payload.specs.Reading.{Payload, readPayload}
 use Rattle.payload.specs.declared.Capacities.{Capacities}
-use Rattle.payload.specs.Trees.{Script, forgetScript, single}
+use Rattle.payload.specs.Trees.{forgetScript}
 use Rattle.payload.specs.Write.{hasBytes, internedParts}
-use Rattle.payload.specs.Writing.{concat, gathered, poolOf, writeLineIndex, writeTrees, writing}
+use Rattle.payload.specs.Writing.{gathered, poolOf, writing}
 use Rattle.pool_index.specs.Laws.Distinct.{index-at, interned-distinct}
 use Rattle.pool_index.specs.Strings.{distinct}
 use Rattle.gather.specs.Laws.Parts.{bytesOf, pool-bytes}
@@ -72,28 +70,10 @@ same-entries pool xs d h e = ext-getD noPart xs pool long each
 ---- the pool of a payload that is a writing
 
 module _ (c : Capacities) (small : Small c) (listed : List ℕ → Bool) (p : List ℕ) (u : Payload) (z : State) (e : readPayload c listed (start p) ≡ ok u z) (w : IsWriting c listed p (forgetScript (u .script))) where
-  abbrev s : Script (List ℕ)
-  s = forgetScript (u .script)
-
-  abbrev after-pool : List ℕ
-  after-pool = concat (writeTrees (poolOf s) (single (s .outer))) ++ writeLineIndex (poolOf s) (s .line)
-
-  -- the pool that was read has the strings of the writing's pool
-  pub read-strings : bytesOf (u .pool) ≡ poolOf s
-  unfolding readPayload _>>=_ pure
-  read-strings =
-      let x = invert (readPool (c .strings) (start p)) _ u z e in
-      let y = invert (readChunk (record { capacities = c; pool = x .0; listed = listed }) (x .1)) _ u z (x .3) in
-      let v = invert (readLineIndex (record { capacities = c; pool = x .0; listed = listed }) (y .1)) _ u z (y .3) in
-      let short : length (writing s) < 2 ^ 64 = let q = ap length (w .its-writing) in omega (arith, w .within) in
-      let g = pool-back c small listed s (w .sound) (w .named) (w .in-list) (w .fits) short .run (start p) after-pool (unfold writing in sym (w .its-writing)) (omega arith) (omega arith) in
-      let a : g .0 ≡ x .0 = cc (g .1, x .2) in
-      let b : x .0 ≡ u .pool = cc (v .3) in
-      ap bytesOf (sym b) ∙ ap bytesOf (sym a) ∙ g .2
-
-  -- and is the one that gathering gives
+  -- it has the strings of the writing's pool, and is the one that gathering gives
   pub read-pool-interned : internedParts [] (gathered (u .script)) ≡ u .pool
   unfolding Entries
   read-pool-interned =
-      let d : distinct (bytesOf (u .pool)) ≡ true = rw read-strings (unfold poolOf in (interned-distinct _ [] (unfold distinct in refl))) in
-      same-entries (u .pool) _ d (entries-interned (u .pool) [] (gathered (u .script)) tt (gathered-entries c listed (start p) u z e)) (pool-bytes (u .script) ∙ sym read-strings)
+      let strings = read-strings c small listed p u z e w in
+      let d : distinct (bytesOf (u .pool)) ≡ true = rw strings (unfold poolOf in (interned-distinct _ [] (unfold distinct in refl))) in
+      same-entries (u .pool) _ d (entries-interned (u .pool) [] (gathered (u .script)) tt (gathered-entries c listed (start p) u z e)) (pool-bytes (u .script) ∙ sym strings)
