@@ -37,19 +37,14 @@ lineCol starts offset =
     (Refused 20 (risingPrefix starts))
     (At (lineAt starts o) (columnAt starts o))
 
--- document 01's values of an answer
+---- document 01's number and values for each case of the answer
+
+-- 0, or the refusal's number
 abbrev pub numberOf : LineCol → ℕ
 numberOf (At line column) = 0
 numberOf (Refused number place) = number
 
-abbrev pub placeOf : LineCol → ℕ
-placeOf (At line column) = 0
-placeOf (Refused number place) = place
-
-abbrev pub lineOf : LineCol → ℕ
-lineOf (At line column) = line
-lineOf (Refused number place) = 0
-
-abbrev pub columnOf : LineCol → ℕ
-columnOf (At line column) = column
-columnOf (Refused number place) = 0
+-- 0, place 0, line and column; or number and place, other fields 0
+abbrev pub lineColFields : LineCol → List ℕ
+lineColFields (At line column) = 0 ∷ 0 ∷ line ∷ column ∷ []
+lineColFields (Refused number place) = number ∷ place ∷ 0 ∷ 0 ∷ []

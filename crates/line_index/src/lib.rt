@@ -7,12 +7,7 @@ ghost use Rattle.slices.specs.Zeros.{padTo};
 ghost use Rattle.line_index.specs.LineIndex.{capacity, lineIndex, countOf, kept};
 ghost use Rattle.line_index.specs.LineCol.{risingPrefix, notAbove, lineCol};
 ghost use Rattle.line_index.specs.Rises.{Rises};
-
-// A text has at most so many bytes.
-const TEXT: usize = 16_777_216;
-
-// A table takes at most so many starts.
-const STARTS: usize = 1_048_576;
+use payload::Program;
 
 // What making a line index answers: the count of starts, or a refusal's number and place.
 pub enum LineIndex {
@@ -51,7 +46,7 @@ fn count(index: LineIndex) -> usize
 fn room(words: usize) -> usize
     ensures { λ r. ⌜ r ≡ capacity words ⌝ }
 {
-    if words < STARTS { words } else { STARTS }
+    payload::start_capacity(words)
 }
 
 // Writes the starts to the front of the table. What it leaves behind them, and after a refusal, is for the caller to clear.
@@ -59,7 +54,7 @@ fn line_starts(text: &[u8], starts: &mut [u32]) -> LineIndex
     ensures { λ r. ⌜ r ≡ lineIndex (now (text .entry)) (length (now (starts .entry))) ⌝ }
     ensures { λ r. ⌜ (take (countOf r) (now (starts .exit)) ≡ kept r (now (text .entry))) × (countOf r ≤ length (now (starts .entry))) ⌝ }
 {
-    if TEXT < text.len() {
+    if Program::SIZE < text.len() {
         return LineIndex::Refused(16, 0);
     }
     let most = room(starts.len());

@@ -6,7 +6,7 @@ use mathlib.Core.List.{List, _++_, append-nil}
 use native.Mathlib.Omega.{arith}
 use lib.Arith.{lt-of-le-ne}
 use lib.ListN.{length, take, drop, length-set}
-use lib.Seq.{length-take-le}
+use lib.Seq.{length-take-le, take-all}
 use borrow.Author.Needs.{needs}
 use Rattle.line_index.specs.LineIndex.{lineStarts, afterNewlines}
 use Rattle.line_index.specs.Laws.LineIndex.{newline, no-newline, text-end, too-long, no-room, made, full}
@@ -89,9 +89,10 @@ returns-4 c =
     let n = at .n in
     let s : List ℕ = at .starts in
     let z = length-set (a .starts .now) 0 0 in
-    let e : lineStarts t ≡ take n s = at .inv .4 ∙ ap (λ (r : List ℕ). take n s ++ r) (text-end t (at .i) (c .loop-test .left)) ∙ append-nil (take n s) in (
-      sym (made t (length (a .starts .now)) (omega arith) n (omega arith) (ap length e ∙ length-take-le n s (omega arith))),
-      (sym e, omega arith),
+    let e : lineStarts t ≡ take n s = at .inv .4 ∙ ap (λ (r : List ℕ). take n s ++ r) (text-end t (at .i) (c .loop-test .left)) ∙ append-nil (take n s) in
+    let long : length (lineStarts t) ≡ n = ap length e ∙ length-take-le n s (omega arith) in (
+      sym (made t (length (a .starts .now)) (omega arith) n (omega arith) long),
+      (sym e ∙ sym (take-all n (lineStarts t) (omega (arith, long))), omega arith),
     )
 
 pub line-starts-spec : {M : Type 1} → statement M
