@@ -7,8 +7,10 @@ ghost use Rattle.slices.specs.LittleEndian.{toLeBytes};
 ghost use Rattle.varint.specs.Varint.{varintOf};
 ghost use Rattle.utf8.specs.Utf8.{isUtf8};
 ghost use Rattle.payload.specs.House.{house};
-ghost use Rattle.payload.specs.Tables.{readAnswer, readNumber};
+ghost use Rattle.payload.specs.Answers.{readNumber};
+ghost use Rattle.payload.specs.Tables.{readAnswer};
 ghost use Rattle.host.specs.Host.{flag, usedOf, numberAfter, checkCapacities};
+use payload::Program;
 use payload::Read;
 use varint::Varint;
 
@@ -59,10 +61,10 @@ pub extern "C" fn rlc2_uvarint(bytes: &[u8], number: &mut [u8]) -> usize
 pub extern "C" fn rlc2_house_check(payload: &[u8], names: &[u8]) -> u64
     ensures { λ r. ⌜ r ≡ readNumber (readAnswer (house checkCapacities (now (names .entry)) (now (payload .entry)))) ⌝ }
 {
-    let mut rows = [0u64; 2560];
-    let mut spans = [0u64; 2048];
+    let mut rows = [0u64; 512 * Program::ROW_WIDTH];
+    let mut spans = [0u64; 2 * 1024];
     let mut starts = [0u32; 512];
-    let mut pool = [0u64; 512];
+    let mut pool = [0u64; 2 * 256];
     match house::house_check(
         payload,
         names,

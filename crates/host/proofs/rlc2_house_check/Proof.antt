@@ -1,26 +1,28 @@
 -- `rlc2_house_check` meets its contract: the number of `house_check` with tables of these lengths.
 use mathlib.Core.List.{List}
 use mathlib.Core.Path.{_≡_, ap, sym, _∙_}
-use Prim.Native.Nat.{ℕ}
+use Prim.Native.Nat.{_*_, ℕ}
 use lib.ListN.{length, length-replicate, replicate}
 use borrow.Author.Needs.{needs}
 use Rattle.payload.specs.House.{house}
 use Rattle.payload.specs.declared.Capacities.{Capacities}
-use Rattle.payload.specs.Tables.{Leaves, capacitiesOf, readAnswer, readNumber}
+use Rattle.payload.specs.Answers.{readNumber}
+use Rattle.payload.specs.Rows.{rowWidth}
+use Rattle.payload.specs.Tables.{Leaves, capacitiesOf, readAnswer}
 use Rattle.payload.specs.declared.Read.{Read}
 use Rattle.host.specs.Host.{checkCapacities}
 use Rattle.host.proofs.rlc2_house_check.Statement.{statement}
 use Rattle.host.proofs.rlc2_house_check.Tie as tie
 
 capacities-are :
-    (rows spans starts pool : List ℕ) → length rows ≡ 2560 → length spans ≡ 2048 → length starts ≡ 512 → length pool ≡ 512 →
+    (rows spans starts pool : List ℕ) → length rows ≡ 512 * rowWidth → length spans ≡ 2 * 1024 → length starts ≡ 512 → length pool ≡ 2 * 256 →
     capacitiesOf (length rows) (length spans) (length starts) (length pool) ≡ checkCapacities
 unfolding capacitiesOf
 capacities-are rows spans starts pool a b c d = rw (a, b, c, d)
 
 number-is :
-    (names p rows spans starts pool : List ℕ) {rows′ spans′ starts′ pool′ : List ℕ} {r : Read} → length rows ≡ 2560 → length spans ≡ 2048 →
-    length starts ≡ 512 → length pool ≡ 512 →
+    (names p rows spans starts pool : List ℕ) {rows′ spans′ starts′ pool′ : List ℕ} {r : Read} → length rows ≡ 512 * rowWidth → length spans ≡ 2 * 1024 →
+    length starts ≡ 512 → length pool ≡ 2 * 256 →
     Leaves (house (capacitiesOf (length rows) (length spans) (length starts) (length pool)) names p) rows spans starts pool rows′ spans′ starts′ pool′ r →
     readNumber r ≡ readNumber (readAnswer (house checkCapacities names p))
 number-is names p rows spans starts pool a b c d h =
@@ -32,8 +34,8 @@ said :
     readNumber (c .house-check .result) ≡ readNumber (readAnswer (house checkCapacities (args .names .now) (args .payload .now)))
 said c =
     let args = c .before .before .before .before .before .before .before .args in
-    number-is (args .names .now) (args .payload .now) (replicate 2560 0) (replicate 2048 0) (replicate 512 0) (replicate 512 0)
-    (length-replicate {A = ℕ} 2560 0) (length-replicate {A = ℕ} 2048 0) (length-replicate {A = ℕ} 512 0) (length-replicate {A = ℕ} 512 0)
+    number-is (args .names .now) (args .payload .now) (replicate (512 * rowWidth) 0) (replicate (2 * 1024) 0) (replicate 512 0) (replicate (2 * 256) 0)
+    (length-replicate {A = ℕ} (512 * rowWidth) 0) (length-replicate {A = ℕ} (2 * 1024) 0) (length-replicate {A = ℕ} 512 0) (length-replicate {A = ℕ} (2 * 256) 0)
     (c .house-check .ensures)
 
 returns : tie.Need-returns
