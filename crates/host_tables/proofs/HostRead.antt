@@ -5,9 +5,10 @@ use Prim.Native.Nat.{ℕ}
 use Rattle.answer.specs.PutIfRoom.{putIfRoom}
 use Rattle.payload.specs.Reader.{Result}
 use Rattle.payload.specs.Reading.{Payload}
-use Rattle.payload.specs.Tables.{Leaves, readNumber}
+use Rattle.payload.specs.Answers.{readFields, readNumber}
+use Rattle.payload.specs.Tables.{Leaves}
 use Rattle.payload.specs.declared.Read.{Read}
-use Rattle.host_tables.specs.HostTables.{readFields, HostRead}
+use Rattle.host_tables.specs.HostTables.{HostRead}
 
 pub host-read : {x : Result Payload} {rows spans starts pool rows′ spans′ starts′ pool′ : List ℕ} {r : Read} {answer answer′ : List ℕ} {n : ℕ}
     → Leaves x rows spans starts pool rows′ spans′ starts′ pool′ r → (n ≡ readNumber r) × (answer′ ≡ putIfRoom answer 0 (readFields r))

@@ -5,12 +5,13 @@ ghost use mathlib.Core.Path.{_≡_};
 ghost use lib.ListN.{length};
 ghost use Rattle.slices.specs.Zeros.{padTo};
 ghost use Rattle.answer.specs.PutIfRoom.{putIfRoom};
-ghost use Rattle.line_index.specs.LineIndex.{lineIndex, kept, numberOf};
-ghost use Rattle.line_index.specs.LineCol.{lineCol};
+ghost use Rattle.line_index.specs.LineIndex.{lineIndex, kept, numberOf, lineIndexFields};
+ghost use Rattle.line_index.specs.LineCol.{lineCol, lineColFields};
 ghost use Rattle.line_index.specs.LineCol.{numberOf as refusalOf};
 ghost use Rattle.payload.specs.House.{house};
-ghost use Rattle.payload.specs.Tables.{capacitiesOf, reading, readNumber};
-ghost use Rattle.host_tables.specs.HostTables.{lineStartsFields, lineColFields, readFields, HostRead};
+ghost use Rattle.payload.specs.Answers.{readFields, readNumber};
+ghost use Rattle.payload.specs.Tables.{capacitiesOf, reading};
+ghost use Rattle.host_tables.specs.HostTables.{HostRead};
 use line_index::LineCol;
 use line_index::LineIndex;
 use payload::Read;
@@ -20,7 +21,7 @@ use payload::Read;
 pub extern "C" fn rlc2_line_starts(text: &[u8], starts: &mut [u32], answer: &mut [u64]) -> u64
     ensures { λ r. ⌜ r ≡ numberOf (lineIndex (now (text .entry)) (length (now (starts .entry)))) ⌝ }
     ensures { λ _. ⌜ now (starts .exit) ≡ padTo (length (now (starts .entry))) (kept (lineIndex (now (text .entry)) (length (now (starts .entry)))) (now (text .entry))) ⌝ }
-    ensures { λ _. ⌜ now (answer .exit) ≡ putIfRoom (now (answer .entry)) 0 (lineStartsFields (lineIndex (now (text .entry)) (length (now (starts .entry))))) ⌝ }
+    ensures { λ _. ⌜ now (answer .exit) ≡ putIfRoom (now (answer .entry)) 0 (lineIndexFields (lineIndex (now (text .entry)) (length (now (starts .entry))))) ⌝ }
 {
     match LineIndex::new(text, starts) {
         LineIndex::Starts(count) => {

@@ -4,7 +4,8 @@ ghost use lib.ListN.{length, getD};
 ghost use Rattle.slices.specs.Zeros.{padTo};
 ghost use Rattle.payload.specs.Write.{writeAnswer, writtenOver, writtenPool};
 ghost use Rattle.answer.specs.PutIfRoom.{putIfRoom};
-ghost use Rattle.host_tables.specs.Write.{programOf, hostWriting, writtenNumber, writtenFields};
+ghost use Rattle.payload.specs.Answers.{writtenNumber, writtenFields};
+ghost use Rattle.host_tables.specs.Write.{programOf, hostWriting};
 use payload::Program;
 use payload::Written;
 

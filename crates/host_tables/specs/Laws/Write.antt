@@ -9,7 +9,8 @@ use Rattle.payload.specs.Write.{Writing, heldTables, writeTables, writeAnswer, 
 use Rattle.payload.specs.declared.Program.{Program}
 use Rattle.payload.specs.declared.Written.{Written}
 use Rattle.answer.specs.PutIfRoom.{putIfRoom}
-use Rattle.host_tables.specs.Write.{programOf, hostWriting, writtenNumber, writtenFields}
+use Rattle.payload.specs.Answers.{writtenFields, writtenNumber}
+use Rattle.host_tables.specs.Write.{programOf, hostWriting}
 
 pub leaves-host : (store counts rows spans starts pool out : List ℕ) {pool′ out′ : List ℕ} {r : Written} {p : Program} → p ≡ programOf counts
     → WriteLeaves (writeTables (capacitiesOf (length rows) (length spans) (length starts) (length pool)) (length out) p (heldTables store p rows spans starts)) pool out pool′ out′ r
