@@ -12,7 +12,7 @@ ghost use Rattle.pool_check.specs.Order.{MetOne, Met};
 ghost use Rattle.pool_check.specs.Hash.{mix, hashFrom, bucketOf};
 ghost use Rattle.pool_check.specs.Chains.{Falls, Searched, ChunkTested, headsAfter};
 
-const ROW_WIDTH: usize = 5;
+use payload::Program;
 
 // The tag of a record row.
 const RECORD: u64 = 16;
@@ -76,11 +76,11 @@ fn meet_row(store: &[u8], rows: &[u64], at: usize, pool: &[u64], met: usize) -> 
 fn meet_rows(store: &[u8], rows: &[u64], pool: &[u64]) -> usize
     ensures { λ r. ⌜ Met (now (pool .entry)) 0 (rowsParts (now (store .entry)) (length (now (rows .entry)) / rowWidth) (now (rows .entry))) r ⌝ }
 {
-    let used = rows.len() / ROW_WIDTH;
+    let used = rows.len() / Program::ROW_WIDTH;
     let mut met: usize = 0;
     let mut i: usize = 0;
     while i < used {
-        met = meet_row(store, rows, ROW_WIDTH * i, pool, met);
+        met = meet_row(store, rows, Program::ROW_WIDTH * i, pool, met);
         i += 1;
     }
     met
