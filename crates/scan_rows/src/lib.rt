@@ -19,7 +19,6 @@ ghost use Rattle.payload.specs.Choice.{_and_};
 ghost use Rattle.payload.specs.Scan.{anyRow, scanValue};
 ghost use Rattle.payload.specs.Reading.{readMany};
 ghost use Rattle.scan_rows.specs.Fits.{numberFits, wordsFit};
-
 use payload::Program;
 
 // The row after what was scanned, or the first row that breaks a rule.

@@ -20,7 +20,6 @@ ghost use Rattle.write_code.specs.Runs.{Positions};
 ghost use Rattle.write_rows.specs.Walk.{held, rowCount, rowWord, itemBytes, itemsBytes, headBytes, spanAfter, rowsUnder, walkRow, walk};
 ghost use Rattle.write_rows.specs.Payload.{lineBytes, payloadBytes, walkDepth, WrittenOut};
 ghost use Rattle.write_rows.specs.Reached.{Writable, Reached};
-
 use payload::Program;
 
 // A value is a row, or a row and one that has no value of its own; the outer chunk is one more.
