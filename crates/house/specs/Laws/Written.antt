@@ -115,22 +115,22 @@ start-count u = go (u .script .line)
     go (some x) = unfold startCount forgetLine lineStarts in refl
 
 abbrev pub readTables : List ℕ → Counts → List ℕ → List ℕ → List ℕ → Tables
-readTables p n rows spans starts = tables p (take (5 * n .rows) rows) (take (2 * n .spans) spans) (take (n .starts) starts) (n .flag) (n .«name_o») (n .«name_n»)
+readTables p n rows spans starts = tables p (take (rowWidth * n .rows) rows) (take (2 * n .spans) spans) (take (n .starts) starts) (n .flag) (n .«name_o») (n .«name_n»)
 
 -- the same as they are lent, from word 0 on
 abbrev pub lentTables : List ℕ → Counts → List ℕ → List ℕ → List ℕ → Tables
-lentTables p n rows spans starts = tables p (take (5 * n .rows - 0) rows) (take (2 * n .spans - 0) spans) (take (n .starts - 0) starts) (n .flag) (n .«name_o») (n .«name_n»)
+lentTables p n rows spans starts = tables p (take (rowWidth * n .rows - 0) rows) (take (2 * n .spans - 0) spans) (take (n .starts - 0) starts) (n .flag) (n .«name_o») (n .«name_n»)
 
 pub lent-words : (k : ℕ) (l : List ℕ) → take (k - 0) l ≡ take k l
 lent-words k l = let e : k - 0 ≡ k = omega arith in rw e
 
 pub lent-tables : (p : List ℕ) (n : Counts) (rows spans starts : List ℕ) → lentTables p n rows spans starts ≡ readTables p n rows spans starts
-lent-tables p n rows spans starts = λ i. tables p (lent-words (5 * n .rows) rows i) (lent-words (2 * n .spans) spans i) (lent-words (n .starts) starts i) (n .flag) (n .«name_o») (n .«name_n»)
+lent-tables p n rows spans starts = λ i. tables p (lent-words (rowWidth * n .rows) rows i) (lent-words (2 * n .spans) spans i) (lent-words (n .starts) starts i) (n .flag) (n .«name_o») (n .«name_n»)
 
 pub lent-met : (p : List ℕ) (n : Counts) (rows pool : List ℕ) {r : ℕ}
-    → Met (take (2 * n .strings - 0) pool) 0 (rowsParts p (length (take (5 * n .rows - 0) rows) / rowWidth) (take (5 * n .rows - 0) rows) ++ nameParts p (n .flag) (n .«name_o») (n .«name_n»)) r
-    → Met (take (2 * n .strings) pool) 0 (rowsParts p (length (take (5 * n .rows) rows) / rowWidth) (take (5 * n .rows) rows) ++ nameParts p (n .flag) (n .«name_o») (n .«name_n»)) r
-lent-met p n rows pool g = rw (lent-words (5 * n .rows) rows, lent-words (2 * n .strings) pool) at g
+    → Met (take (2 * n .strings - 0) pool) 0 (rowsParts p (length (take (rowWidth * n .rows - 0) rows) / rowWidth) (take (rowWidth * n .rows - 0) rows) ++ nameParts p (n .flag) (n .«name_o») (n .«name_n»)) r
+    → Met (take (2 * n .strings) pool) 0 (rowsParts p (length (take (rowWidth * n .rows) rows) / rowWidth) (take (rowWidth * n .rows) rows) ++ nameParts p (n .flag) (n .«name_o») (n .«name_n»)) r
+lent-met p n rows pool g = rw (lent-words (rowWidth * n .rows) rows, lent-words (2 * n .strings) pool) at g
 
 pub record WasRead (names p rows spans starts pool : List ℕ) (n : Counts) : Type 0 where
   pub u : Payload
@@ -144,7 +144,7 @@ pub record WasRead (names p rows spans starts pool : List ℕ) (n : Counts) : Ty
   pub spans-are : take (2 * n .spans) spans ≡ spanWords (spanTable (single (u .script .outer)))
   pub tables-are : readTables p n rows spans starts ≡ tablesOf p (u .script)
   pub pool-is : take (2 * n .strings) pool ≡ partsWords (u .pool)
-  pub rows-fit : 5 * n .rows ≤ length rows
+  pub rows-fit : rowWidth * n .rows ≤ length rows
   pub spans-fit : 2 * n .spans ≤ length spans
   pub starts-fit : n .starts ≤ length starts
   pub strings-fit : 2 * n .strings ≤ length pool
@@ -170,7 +170,7 @@ module _ {names p rows spans starts pool : List ℕ} {n : Counts} (h : AcceptedR
       let spans-n : n .spans ≡ s .spans = ap (λ (m : Counts). m .spans) (a .3) in
       let starts-n : n .starts ≡ length (lineStarts (u .script .line)) = ap (λ (m : Counts). m .starts) (a .3) in
       let strings-n : n .strings ≡ length (u .pool) = ap (λ (m : Counts). m .strings) (a .3) in
-      let r : take (5 * n .rows) rows ≡ rowTable ts = used-words rows (rowTable ts) (5 * n .rows) (h .left .rows-are ∙ ap (λ (x : Result Payload). padTo (length rows) (usedRows x)) e) (omega (arith, obeyed-width 32 ts rules, f .rows-are)) in
+      let r : take (rowWidth * n .rows) rows ≡ rowTable ts = used-words rows (rowTable ts) (rowWidth * n .rows) (h .left .rows-are ∙ ap (λ (x : Result Payload). padTo (length rows) (usedRows x)) e) (omega (arith, obeyed-width 32 ts rules, f .rows-are)) in
       let q : take (2 * n .spans) spans ≡ spanWords (spanTable ts) = used-words spans (spanWords (spanTable ts)) (2 * n .spans) (h .left .spans-are ∙ ap (λ (x : Result Payload). padTo (length spans) (usedSpans x)) e) (omega (arith, length-span-words (spanTable ts), trees-spans ts read-items, counted)) in
       let t : take (n .starts) starts ≡ lineStarts (u .script .line) = used-words starts (lineStarts (u .script .line)) (n .starts) (h .left .starts-are ∙ ap (λ (x : Result Payload). padTo (length starts) (usedStarts x)) e) (sym starts-n) in
       let v : take (2 * n .strings) pool ≡ partsWords (u .pool) = used-words pool (partsWords (u .pool)) (2 * n .strings) (h .left .pool-is ∙ ap (λ (x : Result Payload). padTo (length pool) (usedPool x)) e) (omega (arith, length-partsWords (u .pool))) in
