@@ -1,15 +1,15 @@
--- `hash::mix_word` meets its contract: the sum fits.
+-- `trie::mix_word` meets its contract: the sum fits.
 use mathlib.Core.Path.{ap}
 use Prim.Native.Nat.{ℕ, _+_, _*_, _/_, _%_, _^_, _<_}
 use native.Mathlib.Nat.{mod-lt}
 use lib.Dec.{lit<}
-use Rattle.hash.specs.Hash.{mix}
+use Rattle.trie.specs.Hash.{mix}
 use Prim.Native.Nat.{ℕ, _+_, _*_, _/_, _%_, _<_}
 use mathlib.Core.Path.{ap}
 use native.Mathlib.Omega.{arith}
 use borrow.Author.Needs.{needs}
-use Rattle.hash.proofs.mix_word.Statement.{statement}
-use Rattle.hash.proofs.mix_word.Tie as tie
+use Rattle.trie.proofs.mix_word.Statement.{statement}
+use Rattle.trie.proofs.mix_word.Tie as tie
 
 sum-fits : (a b : ℕ) → a < 4294967296 → b < 4294967296 → a * 2654435761 + b < 2 ^ 64
 sum-fits a b p q = omega arith

@@ -1,13 +1,13 @@
--- `hash::hash_words` meets its contract: the words left, from the hash of those passed.
-use Rattle.hash.specs.Hash.{mix, ofWords}
-use Rattle.hash.specs.Laws.Hash.{words-eight, words-end}
+-- `trie::hash_words` meets its contract: the words left, from the hash of those passed.
+use Rattle.trie.specs.Hash.{mix, ofWords}
+use Rattle.trie.specs.Laws.Hash.{words-eight, words-end}
 use Prim.Native.Nat.{ℕ, _+_, _-_, _≤_}
 use mathlib.Core.Path.{_≡_, sym, ap, _∙_}
 use native.Mathlib.Omega.{arith}
 use lib.ListN.{length, drop}
 use borrow.Author.Needs.{needs}
-use Rattle.hash.proofs.hash_words.Statement.{statement}
-use Rattle.hash.proofs.hash_words.Tie as tie
+use Rattle.trie.proofs.hash_words.Statement.{statement}
+use Rattle.trie.proofs.hash_words.Tie as tie
 
 abbrev Inv-loop : tie.InvT-loop
 Inv-loop s h₀ i₀ h i = (i ≤ length s) × (ofWords (length s) (length s) s ≡ ofWords (length s - i) h (drop i s))

@@ -1,12 +1,12 @@
--- `hash::hash` meets its contract: by its three cases.
-use Rattle.hash.specs.Hash.{mix}
-use Rattle.hash.specs.Laws.Hash.{hash-few, hash-some, hash-many}
+-- `trie::hash` meets its contract: by its three cases.
+use Rattle.trie.specs.Hash.{mix}
+use Rattle.trie.specs.Laws.Hash.{hash-few, hash-some, hash-many}
 use Prim.Native.Nat.{ℕ, _+_, _*_}
 use mathlib.Core.Path.{ap, ap₂, _∙_}
 use lib.ListN.{length}
 use borrow.Author.Needs.{needs}
-use Rattle.hash.proofs.hash.Statement.{statement}
-use Rattle.hash.proofs.hash.Tie as tie
+use Rattle.trie.proofs.hash.Statement.{statement}
+use Rattle.trie.proofs.hash.Tie as tie
 
 returns : tie.Need-returns
 returns c =

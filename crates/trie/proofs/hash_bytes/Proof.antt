@@ -1,13 +1,13 @@
--- `hash::hash_bytes` meets its contract: the bytes left, from the hash of those passed.
-use Rattle.hash.specs.Hash.{mix, ofBytes}
-use Rattle.hash.specs.Laws.Hash.{bytes-one, bytes-end}
+-- `trie::hash_bytes` meets its contract: the bytes left, from the hash of those passed.
+use Rattle.trie.specs.Hash.{mix, ofBytes}
+use Rattle.trie.specs.Laws.Hash.{bytes-one, bytes-end}
 use Prim.Native.Nat.{ℕ, _+_, _-_, _≤_}
 use mathlib.Core.Path.{_≡_, refl, sym, ap, _∙_}
 use native.Mathlib.Omega.{arith}
 use lib.ListN.{length, drop}
 use borrow.Author.Needs.{needs}
-use Rattle.hash.proofs.hash_bytes.Statement.{statement}
-use Rattle.hash.proofs.hash_bytes.Tie as tie
+use Rattle.trie.proofs.hash_bytes.Statement.{statement}
+use Rattle.trie.proofs.hash_bytes.Tie as tie
 
 abbrev Inv-loop : tie.InvT-loop
 Inv-loop s h₀ i₀ h i = (i ≤ length s) × (ofBytes (length s) s ≡ ofBytes h (drop i s))
