@@ -16,7 +16,7 @@ use Rattle.read_items.specs.Context.{PoolFits, contextOf}
 use Rattle.read_items.specs.Laws.Context.{length-partsOf, partsWords-partsOf}
 use Rattle.read_items.specs.Reads.{stateAt, stopped}
 use Rattle.read_lines.specs.LinesRead.{Accepted, InContext}
-use Rattle.read_values.specs.Did.{Fit, Ran, capacities, context, oneTree}
+use Rattle.read_values.specs.Did.{Fit, Ran, context, oneTree}
 use Rattle.payload.specs.declared.Capacities.{Capacities}
 use Rattle.read_values.specs.declared.State.{State}
 use Rattle.deserialize.specs.Filled.{Filled, readScript}

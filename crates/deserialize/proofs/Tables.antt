@@ -18,7 +18,7 @@ use Rattle.slices.specs.Laws.Put.{length-put}
 use Rattle.read_items.specs.Context.{PoolFits, contextOf}
 use Rattle.read_items.specs.Reads.{stateAt}
 use Rattle.read_pool.specs.PoolRead.{Accepted}
-use Rattle.read_values.specs.Did.{Fit, capacities}
+use Rattle.read_values.specs.Did.{Fit}
 use Rattle.deserialize.specs.Filled.{Filled, countsOf, readScript}
 use Rattle.deserialize.proofs.Begins.{begins-front, begins-cleared}
 

@@ -5,7 +5,7 @@ ghost use lib.ListN.{length};
 ghost use Rattle.payload.specs.Tables.{Leaves, capacitiesOf, reading};
 ghost use Rattle.read_items.specs.Context.{PoolFits};
 ghost use Rattle.read_items.specs.Reads.{stateAt};
-ghost use Rattle.read_values.specs.Did.{Fit, capacities, context};
+ghost use Rattle.read_values.specs.Did.{Fit, context};
 ghost use Rattle.deserialize.specs.Filled.{Filled, countsOf, readScript};
 use payload::Capacities;
 use payload::Counts;

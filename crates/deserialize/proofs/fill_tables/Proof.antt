@@ -4,7 +4,6 @@ use Prim.Native.Nat.{_-_, _*_}
 use native.Mathlib.Omega.{arith}
 use borrow.Author.Needs.{needs}
 use Rattle.read_pool.specs.Laws.PoolRead.{was-pool, no-pool}
-use Rattle.read_values.specs.Did.{capacities}
 use Rattle.deserialize.proofs.Script.{filled-no}
 use Rattle.deserialize.proofs.Tables.{strings-fit, strings-few, starts-fit, tables-fit, pool-room, pool-whole, pool-inside, too-large, no-pool-read, filled-payload}
 use Rattle.deserialize.proofs.fill_tables.Statement.{statement}
@@ -14,19 +13,19 @@ returns : tie.Need-returns
 returns c = filled-no (too-large _ _ _ (c .if1 .taken))
 
 read-pool-requires : tie.Need-read-pool-requires
-read-pool-requires c κs = strings-fit _ _ _ _ (c .before .limits-of .ensures)
+read-pool-requires c κs = strings-fit _ _ _ _ (c .before .of .ensures)
 
 mul-end : tie.Need-mul-end
 mul-end c =
     let at-read-pool = c .before .before .before .before .before in
-    let limits-of = at-read-pool .before .before .limits-of in
+    let limits-of = at-read-pool .before .before .of in
     let read = was-pool (c .before .count .given .1) (at-read-pool .read-pool .ensures) in
     omega (arith, read .fits, strings-few _ _ _ _ (limits-of .ensures))
 
 part-read-script-end : tie.Need-part-read-script-end
 part-read-script-end c =
     let at-read-pool = c .before .before .before .before .before .before in
-    let limits-of = at-read-pool .before .before .limits-of in
+    let limits-of = at-read-pool .before .before .of in
     pool-room (was-pool (c .before .before .count .given .1) (at-read-pool .read-pool .ensures)) (strings-fit _ _ _ _ (limits-of .ensures))
 
 read-script-requires : tie.Need-read-script-requires
@@ -35,7 +34,7 @@ read-script-requires c κs =
     let count = at-count .count in
     let read-pool = at-count .before .before .before .before .read-pool in
     let read = was-pool (count .given .1) (read-pool .ensures) in
-    let limits = at-count .before .before .before .before .before .before .limits-of .ensures in
+    let limits = at-count .before .before .before .before .before .before .of .ensures in
     let room = strings-fit _ _ _ _ limits in
     let n = count .given .0 .0 in
     let e : 2 * n - 0 ≡ 2 * n = omega arith in
@@ -47,7 +46,7 @@ returns-2 c =
     let at-count = at-read-script .before .before .before .before .before .before .before in
     let count = at-count .count in
     let at-read-pool = at-count .before .before .before .before in
-    let limits = at-read-pool .before .before .limits-of in
+    let limits = at-read-pool .before .before .of in
     let if1 = at-read-pool .before .before .before .if1 in
     let x = at-read-pool .before .before .before .before .before .before .before .before .before .before .args in
     let read = was-pool (count .given .1) (at-read-pool .read-pool .ensures) in
@@ -59,7 +58,7 @@ returns-2 c =
 returns-3 : tie.Need-returns-3
 returns-3 c =
     let at-read-pool = c .before .before .before .before .before in
-    let limits = at-read-pool .before .before .limits-of in
+    let limits = at-read-pool .before .before .of in
     let if1 = at-read-pool .before .before .before .if1 in
     let x = at-read-pool .before .before .before .before .before .before .before .before .before .before .args in
     let refused = no-pool (c .before .n .given .1) (at-read-pool .read-pool .ensures) in
