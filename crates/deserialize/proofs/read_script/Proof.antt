@@ -13,7 +13,7 @@ returns c =
     let at-read-outer = at-read-line-index .before .before .before .before .before .before .before .before .before in
     let start = at-read-outer .before .before .before .before .before .before .before .before .before in
     let asked = start .pre in
-    let outer = ran-of (state .given .1) (at-read-outer .read-outer .ensures) in
+    let outer = ran-of (state .given .1) (at-read-outer .read-outer .ensures .did) in
     let lines = was-lines (c .before .flag .given .1) (at-read-line-index .read-line-index .ensures) in
     filled-script (start .args .names .now) (start .args .at) (outer .1) (asked .0) (asked .1 .1 .0) (asked .1 .1 .1) (asked .1 .0) lines
 
@@ -23,13 +23,13 @@ returns-2 c =
     let state = at-read-line-index .before .before .before .state in
     let at-read-outer = at-read-line-index .before .before .before .before .before .before .before .before .before in
     let x = at-read-outer .before .before .before .before .before .before .before .before .before .args in
-    let outer = ran-of (state .given .1) (at-read-outer .read-outer .ensures) in
+    let outer = ran-of (state .given .1) (at-read-outer .read-outer .ensures .did) in
     filled-no-lines (x .names .now) (x .at) (outer .1) (no-lines (c .before .n .given .1) (at-read-line-index .read-line-index .ensures))
 
 returns-3 : tie.Need-returns-3
 returns-3 c =
     let read-outer = c .before .before .before .before .before .before .before .read-outer in
-    filled-no (script-no-chunk _ _ (no-of (c .before .n2 .given .1) (read-outer .ensures)))
+    filled-no (script-no-chunk _ _ (no-of (c .before .n2 .given .1) (read-outer .ensures .did)))
 
 pub read-script-spec : {M : Type 1} → statement M
 read-script-spec =
