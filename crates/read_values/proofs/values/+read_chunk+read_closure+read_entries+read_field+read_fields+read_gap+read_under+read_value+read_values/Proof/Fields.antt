@@ -1,21 +1,23 @@
 -- `read_fields`: a loop over field rows.
-use Prim.Native.Nat.{ℕ, _-_}
 use native.Mathlib.Omega.{arith}
-use borrow.Author.Needs.{needs}
+use Rattle.read_values.proofs.Loop.{Sofar, sofar-start, sofar-next, sofar-end, sofar-stop}
+use Prim.Native.Nat.{_-_, ℕ}
 use Rattle.payload.specs.Reading.{readValue}
 use Rattle.read_values.specs.Did.{context}
 use Rattle.read_values.specs.Under.{fieldRow}
-use Rattle.read_values.proofs.Loop.{Sofar, sofar-start, sofar-next, sofar-end, sofar-stop}
+use borrow.Author.Needs.{needs}
+use Rattle.read_values.proofs.values.read_field.Reads as read-field
 use Rattle.read_values.proofs.values.read_fields.Reads as read-fields
-use Rattle.read_values.proofs.values.+read_chunk+read_closure+read_field+read_fields+read_keys+read_pairs+read_under+read_value+read_values.Lts-read_fields as read-fields-lts
-use Rattle.read_values.proofs.values.+read_chunk+read_closure+read_field+read_fields+read_keys+read_pairs+read_under+read_value+read_values.Proof.Common.{read-fields-at, read-fields-known}
+use Rattle.read_values.proofs.values.+read_chunk+read_closure+read_entries+read_field+read_fields+read_gap+read_under+read_value+read_values.Lts-read_fields as read-fields-lts
+use Rattle.read_values.proofs.values.+read_chunk+read_closure+read_entries+read_field+read_fields+read_gap+read_under+read_value+read_values.Proof.Common.{read-fields-at, read-fields-known}
 
 abbrev read-fields-Inv-loop : read-fields-lts.InvT-loop
-read-fields-Inv-loop left count limits bytes names pool rows₀ spans₀ now₀ k₀ rows spans now k =
-    Sofar limits bytes rows₀ rows spans₀ spans (fieldRow (context limits bytes names pool) (readValue (context limits bytes names pool) left)) now₀ now count k
+read-fields-Inv-loop left count capacities bytes names pool rows₀ spans₀ now₀ k₀ rows spans now k =
+    Sofar capacities bytes rows₀ rows spans₀ spans (fieldRow (context capacities bytes names pool) (readValue (context capacities bytes names pool) left)) now₀
+    now count k
 
 abbrev read-fields-μ-loop : read-fields-lts.MeasureT-loop
-read-fields-μ-loop left count limits bytes names pool rows₀ spans₀ now₀ k₀ rows spans now k = count - k
+read-fields-μ-loop left count capacities bytes names pool rows₀ spans₀ now₀ k₀ rows spans now k = count - k
 
 read-fields-loop-holds :
     (t : ℕ) → read-fields-lts.Need-loop-holds (read-fields-known t) (read-fields-at t) read-fields.Post read-fields-Inv-loop read-fields-μ-loop

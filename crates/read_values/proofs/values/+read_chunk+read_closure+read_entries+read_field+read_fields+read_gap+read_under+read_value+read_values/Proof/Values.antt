@@ -1,20 +1,21 @@
 -- `read_values`: a loop over values.
-use Prim.Native.Nat.{ℕ, _-_}
 use native.Mathlib.Omega.{arith}
-use borrow.Author.Needs.{needs}
+use Rattle.read_values.proofs.Loop.{Sofar, sofar-start, sofar-next, sofar-end, sofar-stop}
+use Prim.Native.Nat.{_-_, ℕ}
 use Rattle.payload.specs.Reading.{readValue}
 use Rattle.read_values.specs.Did.{context}
-use Rattle.read_values.proofs.Loop.{Sofar, sofar-start, sofar-next, sofar-end, sofar-stop}
+use borrow.Author.Needs.{needs}
+use Rattle.read_values.proofs.values.read_value.Reads as read-value
 use Rattle.read_values.proofs.values.read_values.Reads as read-values
-use Rattle.read_values.proofs.values.+read_chunk+read_closure+read_field+read_fields+read_keys+read_pairs+read_under+read_value+read_values.Lts-read_values as read-values-lts
-use Rattle.read_values.proofs.values.+read_chunk+read_closure+read_field+read_fields+read_keys+read_pairs+read_under+read_value+read_values.Proof.Common.{read-values-at, read-values-known}
+use Rattle.read_values.proofs.values.+read_chunk+read_closure+read_entries+read_field+read_fields+read_gap+read_under+read_value+read_values.Lts-read_values as read-values-lts
+use Rattle.read_values.proofs.values.+read_chunk+read_closure+read_entries+read_field+read_fields+read_gap+read_under+read_value+read_values.Proof.Common.{read-values-at, read-values-known}
 
 abbrev read-values-Inv-loop : read-values-lts.InvT-loop
-read-values-Inv-loop left count limits bytes names pool rows₀ spans₀ now₀ k₀ rows spans now k =
-    Sofar limits bytes rows₀ rows spans₀ spans (readValue (context limits bytes names pool) left) now₀ now count k
+read-values-Inv-loop left count capacities bytes names pool rows₀ spans₀ now₀ k₀ rows spans now k =
+    Sofar capacities bytes rows₀ rows spans₀ spans (readValue (context capacities bytes names pool) left) now₀ now count k
 
 abbrev read-values-μ-loop : read-values-lts.MeasureT-loop
-read-values-μ-loop left count limits bytes names pool rows₀ spans₀ now₀ k₀ rows spans now k = count - k
+read-values-μ-loop left count capacities bytes names pool rows₀ spans₀ now₀ k₀ rows spans now k = count - k
 
 read-values-loop-holds :
     (t : ℕ) → read-values-lts.Need-loop-holds (read-values-known t) (read-values-at t) read-values.Post read-values-Inv-loop read-values-μ-loop
