@@ -11,8 +11,7 @@ ghost use Rattle.gather.specs.Gather.{itemParts, rowParts, rowsParts, nameParts
 ghost use Rattle.pool_check.specs.Order.{MetOne, Met};
 ghost use Rattle.pool_check.specs.Hash.{mix, hashFrom, bucketOf};
 ghost use Rattle.pool_check.specs.Chains.{Falls, Searched, ChunkTested, headsAfter};
-
-const ROW_WIDTH: usize = 5;
+use payload::Program;
 
 // The tag of a record row.
 const RECORD: u64 = 16;
@@ -76,11 +75,11 @@ fn meet_row(store: &[u8], rows: &[u64], at: usize, pool: &[u64], met: usize) -> 
 fn meet_rows(store: &[u8], rows: &[u64], pool: &[u64]) -> usize
     ensures { λ r. ⌜ Met (now (pool .entry)) 0 (rowsParts (now (store .entry)) (length (now (rows .entry)) / rowWidth) (now (rows .entry))) r ⌝ }
 {
-    let used = rows.len() / ROW_WIDTH;
+    let used = rows.len() / Program::ROW_WIDTH;
     let mut met: usize = 0;
     let mut i: usize = 0;
     while i < used {
-        met = meet_row(store, rows, ROW_WIDTH * i, pool, met);
+        met = meet_row(store, rows, Program::ROW_WIDTH * i, pool, met);
         i += 1;
     }
     met
@@ -220,46 +219,49 @@ fn chunk_differs(
     true
 }
 
-// Whether no string stands twice, by chunks of as many entries as there are links.
-fn all_differ(store: &[u8], pool: &[u64], heads: &mut [u32], nexts: &mut [u32]) -> bool
-    requires { ⌜ (0 < length (now heads)) × (0 < length (now nexts)) × (length (now nexts) ≤ 65536) ⌝ }
-    requires { ⌜ Falls (now nexts) ⌝ }
-    ensures { λ r. ⌜ r ≡ distinct (plainStrings (now (store .entry)) (now (pool .entry))) ⌝ }
-{
-    let count = pool.len() / 2;
-    let mut base: usize = 0;
-    while base < count {
-        slices::zero_u32_from(heads, 0);
-        if !chunk_differs(store, pool, base, heads, nexts) {
-            return false;
-        }
-        base += nexts.len();
-    }
-    true
-}
-
-fn few_differ(store: &[u8], pool: &[u64]) -> bool
-    ensures { λ r. ⌜ r ≡ distinct (plainStrings (now (store .entry)) (now (pool .entry))) ⌝ }
+// The same for at most 256 strings from entry `base` on. Their chains are cheap to clear.
+fn few_differ(store: &[u8], pool: &[u64], base: usize) -> bool
+    requires { ⌜ base ≤ length (now pool) / 2 ⌝ }
+    ensures { λ r. ⌜ ChunkTested (now (store .entry)) (now (pool .entry)) base (base + 256) r ⌝ }
 {
     let mut heads = [0u32; 256];
     let mut nexts = [0u32; 256];
-    all_differ(store, pool, &mut heads, &mut nexts)
+    chunk_differs(store, pool, base, &mut heads, &mut nexts)
 }
 
-fn many_differ(store: &[u8], pool: &[u64]) -> bool
-    ensures { λ r. ⌜ r ≡ distinct (plainStrings (now (store .entry)) (now (pool .entry))) ⌝ }
+// The strings of a large chunk.
+const MANY: usize = 32768;
+
+// The same for a large chunk. The chains take 256 KiB of stack, as long as the chunk is tested.
+fn many_differ(store: &[u8], pool: &[u64], base: usize) -> bool
+    requires { ⌜ base ≤ length (now pool) / 2 ⌝ }
+    ensures { λ r. do ⌜ ChunkTested (now (store .entry)) (now (pool .entry)) base (base + (← ⟦MANY⟧ .entry)) r ⌝ }
 {
-    let mut heads = [0u32; 32768];
-    let mut nexts = [0u32; 32768];
-    all_differ(store, pool, &mut heads, &mut nexts)
+    let mut heads = [0u32; MANY];
+    let mut nexts = [0u32; MANY];
+    chunk_differs(store, pool, base, &mut heads, &mut nexts)
 }
 
-// Whether no string of the pool stands twice. The table of chains for few strings is small, so that it is cheap to clear.
+// The same for all strings from entry `base` on: first those after the first chunk, then the chunk. As it calls itself, the compiler keeps the chunk's frame out of its own
+// and its own out of its caller's: the large frame is there only while a chunk is tested.
+fn all_differ(store: &[u8], pool: &[u64], base: usize) -> bool
+    requires { ⌜ base ≤ length (now pool) / 2 ⌝ }
+    ensures { λ r. ⌜ ChunkTested (now (store .entry)) (now (pool .entry)) base (length (now (pool .entry)) / 2) r ⌝ }
+{
+    if MANY < pool.len() / 2 - base {
+        if !all_differ(store, pool, base + MANY) {
+            return false;
+        }
+    }
+    many_differ(store, pool, base)
+}
+
+// Whether no string of the pool stands twice.
 pub fn are_distinct(store: &[u8], pool: &[u64]) -> bool
     ensures { λ r. ⌜ r ≡ distinct (plainStrings (now (store .entry)) (now (pool .entry))) ⌝ }
 {
-    if pool.len() <= 512 {
-        return few_differ(store, pool);
+    if pool.len() / 2 <= 256 {
+        return few_differ(store, pool, 0);
     }
-    many_differ(store, pool)
+    all_differ(store, pool, 0)
 }

@@ -20,7 +20,8 @@ use Rattle.payload.specs.Rows.{countWords, itemWords, itemsWords, kidsCountWord
 use Rattle.payload.specs.Shapes.{ItemKind, Shape, isKeyTag, keys, kindsOf, noValue, oneValue, pairs, shape, shapes, values, withChunk, withFields, withKids, withTemplate}
 use Rattle.payload.specs.Trees.{Node, forgetItem, forgetItems, itemValue, itemsValue, cons, keyOf, nil, nodeOf, number, single, string}
 use Rattle.read_items.specs.Context.{PoolFits, contextOf, partOf, partsOf}
-use Rattle.read_values.specs.Did.{Fit, context, stateOf}
+use Rattle.read_values.specs.Did.{Fit, context}
+use Rattle.read_values.specs.State.{stateOf}
 use Rattle.read_values.specs.Under.{chunkRow, fieldRow}
 use Rattle.read_values.specs.declared.State.{State}
 use Rattle.read_values.proofs.Tags.{by-table, every}
@@ -201,11 +202,11 @@ module _ (c : Capacities) (p : List ℕ) where
 
 -- one row, whose words are the key's
 pub key-read :
-    (limits : Capacities) (p names pool : List ℕ) {rows spans : List ℕ} {now : State} → Fit limits p rows spans now → PoolFits p pool →
-    (d : ℕ) (t : Node Part) (z : reader.State) → readValue (context limits p names pool) d (stateOf p now) ≡ ok t z → isKeyTag (t .tag) ≡ true → KeyNode p t
+    (capacities : Capacities) (p names pool : List ℕ) {rows spans : List ℕ} {now : State} → Fit capacities p rows spans now → PoolFits p pool →
+    (d : ℕ) (t : Node Part) (z : reader.State) → readValue (context capacities p names pool) d (stateOf p now) ≡ ok t z → isKeyTag (t .tag) ≡ true → KeyNode p t
 unfolding contextOf
-key-read limits p names pool {now = now} f h d t z q k =
-    let s = shaped (context limits p names pool) d (stateOf p now) t z q in
-    let g = shape-tag (context limits p names pool) (s .value) (s .tag) (shape (s .tag)) (s .start) t z (s .is) in
-    key-node limits p (context limits p names pool) (s .value) (s .tag) (shape (s .tag)) refl (key-shape (s .tag) (s .low) (rw g at k)) (s .start)
-    t z (s .is) (pool-stands limits p pool h)
+key-read capacities p names pool {now = now} f h d t z q k =
+    let s = shaped (context capacities p names pool) d (stateOf p now) t z q in
+    let g = shape-tag (context capacities p names pool) (s .value) (s .tag) (shape (s .tag)) (s .start) t z (s .is) in
+    key-node capacities p (context capacities p names pool) (s .value) (s .tag) (shape (s .tag)) refl (key-shape (s .tag) (s .low) (rw g at k)) (s .start)
+    t z (s .is) (pool-stands capacities p pool h)

@@ -3,4 +3,4 @@ pub mod Loop
 pub mod Shape
 pub mod Value
 pub mod KeyRead
-pub mod KeyLoop
+pub mod EntryLoop

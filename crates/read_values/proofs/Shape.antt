@@ -15,14 +15,26 @@ use Rattle.payload.specs.Reader.{Part, Reader, Result, _>>=_, _>>_, andThen, by
 use Rattle.payload.specs.Reader as reader
 use Rattle.payload.specs.Reading.{Context, nodeKey, readItems, readKeys, readKids, readMany, readOne, readPairs, readShape, readUntagged, readValue, testKey}
 use Rattle.payload.specs.Rows.{rootCount}
-use Rattle.payload.specs.Shapes.{ItemKind, Kids, Shape, keys, noValue, oneValue, pairs, shape, shapes, values, withChunk, withFields, withKids, withTemplate}
+use Rattle.payload.specs.Shapes.{ItemKind, Kids, Shape, keys, noValue, oneValue, pairs, shape, shapes, values, withChunk, withFields, withKids, withTemplate, kindsOf}
 use Rattle.payload.specs.Trees.{Item, Node, Trees, cons, nil, nodeOf}
 use Rattle.payload.specs.Choice.{if_then_else_}
 use Rattle.read_items.specs.Heads.{Heading, countIn, heading, readCount, readHead, readKidsCount, rowsUnder}
 use Rattle.read_items.specs.Reads.{stateAt}
-use Rattle.payload.specs.Shapes.{kindsOf}
+use Rattle.read_values.specs.Entries.{readEntries}
+use Rattle.read_values.specs.Laws.Entries.{keys-are, pairs-are}
+use Rattle.read_values.specs.State.{stateOf}
 use Rattle.read_values.specs.Under.{chunkRow, fieldRow, readUnder}
+use Rattle.read_values.specs.declared.State.{State}
 use Rattle.read_values.proofs.Tags.{noTemplate, onlyValues}
+
+-- how many trees are read
+pub many-count : (rd : Reader (Node Part)) (n : ℕ) (s : reader.State) (ts : Trees Part) (z : reader.State) → readMany n rd s ≡ ok ts z → rootCount ts ≡ n
+unfolding readMany _>>=_ pure rootCount cons
+many-count rd zero s ts z q = let w : nil ≡ ts = cc in rw (← w)
+many-count rd (suc n) s ts z q =
+    let a = invert (rd s) _ ts z q in
+    let b = invert (readMany n rd (a .1)) _ ts z (a .3) in
+    let w : cons (a .0) (b .0) ≡ ts = cc in rw (← w) (ap suc (many-count rd n (a .1) (b .0) (b .1) (b .2)))
 
 module _ (e : Context) (rv : Reader (Node Part)) where
   module _ (t : ℕ) where
@@ -161,15 +173,6 @@ module _ (e : Context) (rv : Reader (Node Part)) where
   under-values (withFields ks) n h = false≢true h
   under-values (withTemplate ks) n h = false≢true h
 
-  -- how many trees are read
-  pub many-count : (rd : Reader (Node Part)) (n : ℕ) (s : reader.State) (ts : Trees Part) (z : reader.State) → readMany n rd s ≡ ok ts z → rootCount ts ≡ n
-  unfolding readMany _>>=_ pure rootCount cons
-  many-count rd zero s ts z q = let w : nil ≡ ts = cc in rw (← w)
-  many-count rd (suc n) s ts z q =
-      let a = invert (rd s) _ ts z q in
-      let b = invert (readMany n rd (a .1)) _ ts z (a .3) in
-      let w : cons (a .0) (b .0) ≡ ts = cc in rw (← w) (ap suc (many-count rd n (a .1) (b .0) (b .1) (b .2)))
-
   pub keys-count : (n : ℕ) (seen : List (List ℕ)) (s : reader.State) (ts : Trees Part) (z : reader.State) → readKeys n seen rv s ≡ ok ts z → rootCount ts ≡ n
   unfolding readKeys _>>=_ _>>_ pure here andThen rootCount cons
   keys-count zero seen s ts z q = let w : nil ≡ ts = cc in rw (← w)
@@ -209,13 +212,13 @@ module _ (e : Context) (rv : Reader (Node Part)) where
     unfolding readUnder shape shapes if_then_else_
     under-function h = rw h
 
-    pub under-keys : t ≡ 14 → readUnder e rv (shape t) n ≡ readKeys n [] rv
+    pub under-keys : t ≡ 14 → (s : reader.State) → readUnder e rv (shape t) n s ≡ readEntries 0 n [] rv s
     unfolding readUnder shape shapes if_then_else_
-    under-keys h = rw h
+    under-keys h s = rw h (keys-are rv n [] s)
 
-    pub under-pairs : t ≡ 15 → readUnder e rv (shape t) n ≡ readPairs n [] rv
+    pub under-pairs : t ≡ 15 → (s : reader.State) → readUnder e rv (shape t) n s ≡ readEntries 1 n [] rv s
     unfolding readUnder shape shapes if_then_else_
-    under-pairs h = rw h
+    under-pairs h s = rw h (pairs-are rv n [] s)
 
     pub under-record : t ≡ 16 → readUnder e rv (shape t) n ≡ readMany n (fieldRow e rv)
     unfolding readUnder shape shapes if_then_else_
@@ -224,15 +227,16 @@ module _ (e : Context) (rv : Reader (Node Part)) where
   ---- a chunk or field row: room for it, then its shape
 
   pub row-full :
-      (p : List ℕ) (i ro sp t : ℕ) (ks : List ItemKind) (kk : Kids) → e .capacities .rows ≤ ro → readUntagged e rv t ks kk (stateAt p i ro sp) ≡ refused 22 i
+      (p : List ℕ) (s : State) (t : ℕ) (ks : List ItemKind) (kk : Kids) → e .capacities .rows ≤ s .rows →
+      readUntagged e rv t ks kk (stateOf p s) ≡ refused 22 (s .at)
   unfolding readUntagged _>>_ andThen newRow must
-  row-full p i ro sp t ks kk h = rw (le-ltb _ _ h)
+  row-full p s t ks kk h = rw (le-ltb _ _ h)
 
   pub row-room :
-      (p : List ℕ) (i ro sp t : ℕ) (ks : List ItemKind) (kk : Kids) → ro < e .capacities .rows →
-      readUntagged e rv t ks kk (stateAt p i ro sp) ≡ readShape e rv t (withKids ks kk) (stateAt p i (ro + 1) sp)
+      (p : List ℕ) (s : State) (t : ℕ) (ks : List ItemKind) (kk : Kids) → s .rows < e .capacities .rows →
+      readUntagged e rv t ks kk (stateOf p s) ≡ readShape e rv t (withKids ks kk) (stateAt p (s .at) (s .rows + 1) (s .spans))
   unfolding readUntagged readShape _>>_ andThen newRow must
-  row-room p i ro sp t ks kk h = rw (lt-ltb _ _ h, add-one ro)
+  row-room p s t ks kk h = rw (lt-ltb _ _ h, add-one (s .rows))
 
 -- one chunk row follows a function
 pub function-count : (t n : ℕ) (ws : List ℕ) → countIn (shape t) ws ≡ n → t ≡ 7 → n ≡ 1

@@ -26,7 +26,8 @@ use Rattle.read_code.specs.CodeRead.{Accepted, CodeRead}
 use Rattle.read_code.specs.declared.CodeAt.{CodeAt}
 use Rattle.read_code.specs.declared.CodeAt.the-variants as code-at
 use Rattle.key_test.specs.Told.{RowTold}
-use Rattle.read_values.specs.Did.{manyTrees, oneTree, Fit, Ran, Did, context, stateOf}
+use Rattle.read_values.specs.Did.{manyTrees, oneTree, Fit, Ran, Did, context}
+use Rattle.read_values.specs.State.{RowStored, afterRow, afterSpans, stateOf}
 use Rattle.read_values.specs.Laws.Did.{did-node, two-runs, own-rows, own-spans, own-told, cons-rows, cons-spans, cons-told, length-spanWords}
 use Rattle.payload.specs.declared.Capacities.{Capacities}
 use Rattle.read_values.specs.declared.State.{State}
@@ -65,33 +66,38 @@ row-told t sh e is n m {a} {b} {c} {d} w k h =
     let ws : rowWords t is m ≡ t ∷ a ∷ b ∷ c ∷ d ∷ [] = rw (e, ← h) (ap (λ (l : List ℕ). t ∷ l) w) in
     (ws, record { a = a; b = b; c = c; d = d; words = ws; told = rw (e, k) h })
 
-module _ (limits : Capacities) (p names pool : List ℕ) (rv : Reader (Node Part)) (t : ℕ) (sh : Shape) (its-shape : shape t ≡ sh) (plain : noTemplate sh ≡ true) where
-  pub did-shape : (i : ℕ) {a b c a′ c′ : List ℕ} {own sp : ℕ} {x y z w n next : ℕ} {r : Step} →
-      RowRead p names pool i sh x y z w n next → b ≡ put a (rowWidth * own) (t ∷ x ∷ y ∷ z ∷ w ∷ []) →
-      Did manyTrees limits p b c a′ c′ (own + 1) sp r (readUnder (context limits p names pool) rv sh n (stateAt p next (own + 1) sp)) →
-      Did oneTree limits p a c a′ c′ own sp r (readShape (context limits p names pool) rv t sh (stateAt p i (own + 1) sp))
+module _ (capacities : Capacities) (p names pool : List ℕ) (rv : Reader (Node Part)) (t : ℕ) (sh : Shape) (its-shape : shape t ≡ sh) (plain : noTemplate sh ≡ true) where
+  pub did-shape : (i : ℕ) {a b c a′ c′ : List ℕ} {state after : State} {x y z w n next : ℕ} {r : Step} →
+      RowRead p names pool i sh x y z w n next → RowStored a b (t ∷ x ∷ y ∷ z ∷ w ∷ []) state next after →
+      Did manyTrees capacities p b c a′ c′ (after .rows) (after .spans) r (readUnder (context capacities p names pool) rv sh n (stateOf p after)) →
+      Did oneTree capacities p a c a′ c′ (state .rows) (state .spans) r
+      (readShape (context capacities p names pool) rv t sh (stateAt p i (state .rows + 1) (state .spans)))
   unfolding andThen _>>=_ spanWords
-  did-shape i {a′ = a′} {own = own} {sp = sp} {x = x} {y = y} {z = z} {w = w} {n = n} {next = next} h wr d =
-      rw (shape-head (context limits p names pool) rv t sh (stateAt p i (own + 1) sp) plain, h .is limits .is (own + 1) sp)
-      (did-node t (h .items) (t ∷ x ∷ y ∷ z ∷ w ∷ []) [] wr refl (sym (put-none a′ (2 * sp))) (omega arith) (ap spanWords (sym (h .no-spans)))
+  did-shape i {a′ = a′} {state = state} {x = x} {y = y} {z = z} {w = w} {n = n} {next = next} h stored d =
+      rw (
+        shape-head (context capacities p names pool) rv t sh (stateAt p i (state .rows + 1) (state .spans)) plain,
+        h .is capacities .is (state .rows + 1) (state .spans),
+      )
+      (did-node t (h .items) (t ∷ x ∷ y ∷ z ∷ w ∷ []) [] (stored .words) refl (sym (put-none a′ (2 * state .spans))) (omega arith)
+      (ap spanWords (sym (h .no-spans)))
       (λ ts s e.
       row-told t sh its-shape (h .items) n (rootCount ts) (h .words) (h .told)
-      (under-count (context limits p names pool) rv sh n (stateAt p next (own + 1) sp) ts s plain e)) d)
+      (under-count (context capacities p names pool) rv sh n (stateOf p (afterRow next state)) ts s plain e)) (rw (stored .after) at d))
 
   pub no-shape : (own sp i : ℕ) {n q : ℕ} → HeadOut p names pool i sh (head.Refused n q) →
-      readShape (context limits p names pool) rv t sh (stateAt p i (own + 1) sp) ≡ refused n q
+      readShape (context capacities p names pool) rv t sh (stateAt p i (own + 1) sp) ≡ refused n q
   unfolding andThen
-  no-shape own sp i h = rw (shape-head (context limits p names pool) rv t sh (stateAt p i (own + 1) sp) plain, h limits .is (own + 1) sp)
+  no-shape own sp i h = rw (shape-head (context capacities p names pool) rv t sh (stateAt p i (own + 1) sp) plain, h capacities .is (own + 1) sp)
 
   -- nothing follows the head
   pub did-leaf :
-      (i : ℕ) {a b a′ : List ℕ} {own sp : ℕ} {x y z w n next : ℕ} → RowRead p names pool i sh x y z w n next →
-      b ≡ put a (rowWidth * own) (t ∷ x ∷ y ∷ z ∷ w ∷ []) → n ≡ 0 → Fit limits p b a′ (record { at = next; rows = own + 1; spans = sp }) →
-      Did oneTree limits p a b a′ a′ own sp (Done (record { at = next; rows = own + 1; spans = sp }))
-      (readShape (context limits p names pool) rv t sh (stateAt p i (own + 1) sp))
+      (i : ℕ) {a b a′ : List ℕ} {state after : State} {x y z w n next : ℕ} → RowRead p names pool i sh x y z w n next →
+      RowStored a b (t ∷ x ∷ y ∷ z ∷ w ∷ []) state next after → n ≡ 0 → Fit capacities p b a′ after →
+      Did oneTree capacities p a b a′ a′ (state .rows) (state .spans) (Done after)
+      (readShape (context capacities p names pool) rv t sh (stateAt p i (state .rows + 1) (state .spans)))
   unfolding pure
-  did-leaf i {own = own} {sp = sp} {next = next} h wr z f =
-      did-shape i h wr (rw (z, under-none (context limits p names pool) rv sh (stateAt p next (own + 1) sp)) (did-none f))
+  did-leaf i {after = after} h stored z f =
+      did-shape i h stored (rw (z, under-none (context capacities p names pool) rv sh (stateOf p after)) (did-none f))
 
 ---- a closure's row is stored once its template stands after it
 
@@ -109,14 +115,15 @@ unfolding spanWords
 closure-spans t is f ts e = own-spans t is (cons f ts) ∙ ap (λ (m : List Span). spanWords m ++ spanWords (spanTable (cons f ts))) e
 
 pub did-closure :
-    {limits : Capacities} {p : List ℕ} {a b c e a′ b′ e′ : List ℕ} {i k j : ℕ} {mid : State} {r : Step} {f : Node Part} {x : Result (Node Part)}
-    {y : Result (Trees Part)} (t : ℕ) (is : List (Item Part)) (row : List ℕ) → i + 1 ≡ k → Ran oneTree limits p a b a′ b′ k j mid f x →
+    {capacities : Capacities} {p : List ℕ} {a b c e a′ b′ e′ : List ℕ} {i j : ℕ} {mid : State} {r : Step} {f : Node Part} {x : Result (Node Part)}
+    {y : Result (Trees Part)} (t : ℕ) (is : List (Item Part)) (row : List ℕ) → Ran oneTree capacities p a b a′ b′ (i + 1) j mid f x →
     c ≡ put b (rowWidth * i) row → length row ≡ rowWidth → itemsSpans is ≡ [] →
     ((ts : Trees Part) (z : reader.State) → y ≡ ok ts z → (rowWords t is (rootCount (cons f ts)) ≡ row) × RowTold t is (rootCount (cons f ts))) →
-    Did manyTrees limits p c e b′ e′ (mid .rows) (mid .spans) r y → Did oneTree limits p a e a′ e′ i j r (andThen y (λ ts. pure (nodeOf t is (cons f ts))))
+    Did manyTrees capacities p c e b′ e′ (mid .rows) (mid .spans) r y →
+    Did oneTree capacities p a e a′ e′ i j r (andThen y (λ ts. pure (nodeOf t is (cons f ts))))
 unfolding andThen pure
-did-closure {r = Refused n q} t is row ik g w n5 ns h d = record { out = rw (d .out) }
-did-closure {p = p} {a = a} {b = b} {c = c} {e = e} {a′ = a′} {b′ = b′} {e′ = e′} {i = i} {j = j} {mid = mid} {r = Done s} {f = f} t is row ik g w n5 ns h d =
+did-closure {r = Refused n q} t is row g w n5 ns h d = record { out = rw (d .out) }
+did-closure {p = p} {a = a} {b = b} {c = c} {e = e} {a′ = a′} {b′ = b′} {e′ = e′} {i = i} {j = j} {mid = mid} {r = Done s} {f = f} t is row g w n5 ns h d =
     let ts = d .out .0 in
     let k = d .out .1 in
     let m = h ts (stateOf p s) (k .is) in
@@ -124,7 +131,7 @@ did-closure {p = p} {a = a} {b = b} {c = c} {e = e} {a′ = a′} {b′ = b′} 
     ∙ ap (λ (l : List ℕ). l ++ rowTable (cons f ts)) (m .0) ∙ ap (λ (l : List ℕ). row ++ l) (cons-rows f ts) in
     let ss : spanWords (spanTable (single (nodeOf t is (cons f ts)))) ≡ spanWords (spanTable (single f)) ++ spanWords (spanTable ts) = closure-spans t is f ts
     ns ∙ cons-spans f ts in
-    let u = row-under a b c i row (rowTable (single f)) n5 (g .wrote ∙ ap (λ (q : ℕ). put a (rowWidth * q) (rowTable (single f))) (sym ik)) w in
+    let u = row-under a b c i row (rowTable (single f)) n5 (g .wrote) w in
     let l1 = length-append row (rowTable (single f)) in
     record {
       out = (
@@ -185,30 +192,34 @@ chunk-under : (m : ℕ) → rowsUnder (withKids (ItemKind.code ∷ []) values) m
 unfolding rowsUnder
 chunk-under m = refl
 
-module _ (limits : Capacities) (p names pool : List ℕ) (rv : Reader (Node Part)) (i own sp : ℕ) where
-  pub no-code :
-      {n q : ℕ} → ((rows : ℕ) → readCode (limits .spans) (stateAt p i rows sp) ≡ refused n q) →
-      readShape (context limits p names pool) rv 32 (withKids (ItemKind.code ∷ []) values) (stateAt p i (own + 1) sp) ≡ refused n q
-  unfolding readShape readItems readItem _>>=_ andThen contextOf
-  no-code e = rw (e (own + 1))
+module _ (capacities : Capacities) (p names pool : List ℕ) (rv : Reader (Node Part)) (state : State) where
+  abbrev from-row : reader.State
+  from-row = stateAt p (state .at) (state .rows + 1) (state .spans)
 
-  module _ {a′ b′ : List ℕ} {o n mid : ℕ} (g : Accepted p a′ b′ sp (limits .spans) i o n mid) where
+  pub no-code :
+      {n q : ℕ} → ((rows : ℕ) → readCode (capacities .spans) (stateAt p (state .at) rows (state .spans)) ≡ refused n q) →
+      readShape (context capacities p names pool) rv 32 (withKids (ItemKind.code ∷ []) values) from-row ≡ refused n q
+  unfolding readShape readItems readItem _>>=_ andThen contextOf
+  no-code e = rw (e (state .rows + 1))
+
+  module _ {a′ b′ : List ℕ} {o n mid : ℕ} (g : Accepted p a′ b′ (state .spans) (capacities .spans) (state .at) o n mid) where
     pub no-chunk :
         {m q : ℕ} → Reads p mid varint (stopped m q) →
-        readShape (context limits p names pool) rv 32 (withKids (ItemKind.code ∷ []) values) (stateAt p i (own + 1) sp) ≡ refused m q
+        readShape (context capacities p names pool) rv 32 (withKids (ItemKind.code ∷ []) values) from-row ≡ refused m q
     unfolding readShape readItems readItem readKids _>>=_ andThen pure contextOf
-    no-chunk e = rw (g .is (own + 1), e .is (own + 1) (sp + n))
+    no-chunk e = rw (g .is (state .rows + 1), e .is (state .rows + 1) (state .spans + n))
 
     pub did-chunk :
-        {a b c c′ : List ℕ} {m next : ℕ} {r : Step} → Reads p mid varint (read m next) → b ≡ put a (rowWidth * own) (32 ∷ o ∷ n ∷ m ∷ 0 ∷ []) →
-        Did manyTrees limits p b c b′ c′ (own + 1) (sp + n) r (readMany m rv (stateAt p next (own + 1) (sp + n))) →
-        Did oneTree limits p a c a′ c′ own sp r
-        (readShape (context limits p names pool) rv 32 (withKids (ItemKind.code ∷ []) values) (stateAt p i (own + 1) sp))
+        {a b c c′ : List ℕ} {after all : State} {m next : ℕ} {r : Step} → Reads p mid varint (read m next) →
+        RowStored a b (32 ∷ o ∷ n ∷ m ∷ 0 ∷ []) state next after → all ≡ afterSpans n after →
+        Did manyTrees capacities p b c b′ c′ (all .rows) (all .spans) r (readMany m rv (stateOf p all)) →
+        Did oneTree capacities p a c a′ c′ (state .rows) (state .spans) r
+        (readShape (context capacities p names pool) rv 32 (withKids (ItemKind.code ∷ []) values) from-row)
     unfolding readShape readItems readItem readKids _>>=_ andThen pure contextOf
-    did-chunk {m = m} {next = next} e w d =
-        rw (g .is (own + 1), e .is (own + 1) (sp + n))
-        (did-node 32 (code (partOf p o n) (g .spans) ∷ []) (32 ∷ o ∷ n ∷ m ∷ 0 ∷ []) (spanWords (g .spans)) w refl (g .stored)
+    did-chunk {m = m} {next = next} e stored v d =
+        rw (g .is (state .rows + 1), e .is (state .rows + 1) (state .spans + n))
+        (did-node 32 (code (partOf p o n) (g .spans) ∷ []) (32 ∷ o ∷ n ∷ m ∷ 0 ∷ []) (spanWords (g .spans)) (stored .words) refl (g .stored)
         (omega (arith, g .each, length-spanWords (g .spans))) (chunk-spans p o n (g .spans))
         (λ ts z q.
         row-told 32 (withKids (ItemKind.code ∷ []) values) shape-chunk _ m (rootCount ts) (chunk-words p o n (g .spans) m (g .code-inside)) (chunk-told o n m)
-        (chunk-under m ∙ sym (many-count (context limits p names pool) rv rv m _ ts z q))) d)
+        (chunk-under m ∙ sym (many-count rv m _ ts z q))) (rw (v ∙ ap (afterSpans n) (stored .after)) at d))

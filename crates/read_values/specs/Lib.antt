@@ -1,3 +1,6 @@
-pub mod Under
+pub mod State
 pub mod Did
+pub mod Entries
+pub mod Under
+pub mod Outer
 pub mod Laws

@@ -1,9 +1,9 @@
 -- What is read under a row, over the reader of a value one level down.
 use mathlib.Core.List.{[], _∷_}
 use Prim.Native.Nat.{ℕ}
-use Rattle.payload.specs.Reader.{Part, Reader}
-use Rattle.payload.specs.Reading.{Context, readKeys, readMany, readPairs, readUntagged}
-use Rattle.payload.specs.Shapes.{ItemKind, Shape, keys, noValue, oneValue, pairs, values, withChunk, withFields, withKids, withTemplate}
+use Rattle.payload.specs.Reader.{Part, Reader, withRow}
+use Rattle.payload.specs.Reading.{Context, readKeys, readMany, readPairs, readShape, readUntagged}
+use Rattle.payload.specs.Shapes.{ItemKind, Shape, keys, noValue, oneValue, pairs, shape, values, withChunk, withFields, withKids, withTemplate}
 use Rattle.payload.specs.Trees.{Node, Trees}
 
 -- the two kinds of row that have no tag byte
@@ -12,6 +12,10 @@ chunkRow e value = readUntagged e value 32 (ItemKind.code ∷ []) values
 
 abbrev pub fieldRow : Context → Reader (Node Part) → Reader (Node Part)
 fieldRow e value = readUntagged e value 33 (ItemKind.string ∷ []) oneValue
+
+-- a closure after its tag: room for its row was found
+abbrev pub closureRow : Context → Reader (Node Part) → Reader (Node Part)
+closureRow e value s = readShape e value 18 (shape 18) (withRow s)
 
 -- n of what follows the items of a shape; of a closure, after its template
 unfoldable pub readUnder : Context → Reader (Node Part) → Shape → ℕ → Reader (Trees Part)

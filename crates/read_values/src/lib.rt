@@ -1,12 +1,14 @@
 // Values and chunks of a payload, read into lent tables.
 mod rows;
+mod states;
 mod values;
 
-ghost use Rattle.payload.specs.Reading.{readChunk};
 ghost use Rattle.read_items.specs.Context.{PoolFits};
-ghost use Rattle.read_items.specs.Reads.{stateAt};
-ghost use Rattle.read_values.specs.Did.{Fit, Did, oneTree, context};
+ghost use Rattle.read_values.specs.Did.{Fit};
+ghost use Rattle.read_values.specs.Outer.{OuterRead};
+ghost use Rattle.read_values.specs.State.{startAt};
 use payload::Capacities;
+use payload::Program;
 
 // The next unread byte, and the rows and spans used.
 pub struct State {
@@ -21,35 +23,36 @@ pub enum Step {
     Refused(u64, usize),
 }
 
-// The levels of values below the outer chunk.
-const DEPTH: usize = 32;
-
-// The outer chunk at `at`, into tables of which nothing is used.
+// The outer chunk at `at`, into tables of which nothing is used. A refusal leaves zeros in both.
 pub fn read_outer(
     bytes: &[u8],
     names: &[u8],
     pool: &[u64],
     rows: &mut [u64],
     spans: &mut [u64],
-    limits: Capacities,
+    capacities: Capacities,
     at: usize,
 ) -> Step
-    requires { ⌜ Fit limits (now bytes) (now rows) (now spans) (record { at = at; rows = 0; spans = 0 }) ⌝ }
+    requires { ⌜ Fit capacities (now bytes) (now rows) (now spans) (startAt at) ⌝ }
     requires { ⌜ PoolFits (now bytes) (now pool) ⌝ }
-    ensures { λ r. ⌜ Did oneTree limits (now (bytes .entry)) (now (rows .entry)) (now (rows .exit)) (now (spans .entry)) (now (spans .exit)) 0 0 r (readChunk (context limits (now (bytes .entry)) (now (names .entry)) (now (pool .entry))) (stateAt (now (bytes .entry)) at 0 0)) ⌝ }
+    ensures { λ r. ⌜ OuterRead capacities (now (bytes .entry)) (now (names .entry)) (now (pool .entry)) (now (rows .entry)) (now (rows .exit))
+        (now (spans .entry)) (now (spans .exit)) at r ⌝ }
 {
-    values::read_chunk(
-        DEPTH,
-        limits,
+    match values::read_chunk(
+        Program::DEPTH,
+        capacities,
         bytes,
         names,
         pool,
         rows,
         spans,
-        State {
-            at: at,
-            rows: 0,
-            spans: 0,
-        },
-    )
+        State::start(at),
+    ) {
+        Step::Done(state) => Step::Done(state),
+        Step::Refused(n, q) => {
+            slices::zero_u64_from(rows, 0);
+            slices::zero_u64_from(spans, 0);
+            Step::Refused(n, q)
+        }
+    }
 }

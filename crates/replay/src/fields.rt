@@ -1,35 +1,27 @@
-// Numbers in the fields of a record, the lowest byte first.
-ghost use Prim.Native.Nat.{_+_, _≤_, _<_};
-ghost use lib.ListN.{length};
+// Lengths in a record, and what stands from a place on.
+ghost use mathlib.Core.Path.{_≡_};
+ghost use Prim.Native.Nat.{_<_};
+ghost use lib.ListN.{drop};
+ghost use Rattle.recorded.specs.Recorded.{numberAt};
 
-fn wide(x: u8) -> usize
-    ensures { λ r. ⌜ r < 256 ⌝ }
+pub fn u8_at(bytes: &[u8], at: usize) -> usize
+    ensures { λ r. ⌜ (r ≡ numberAt 1 (now (bytes .entry)) at) × (r < 256) ⌝ }
 {
-    x as usize
+    recorded::number_at(bytes, at, 1) as usize
 }
 
-pub fn u8_at(bytes: &[u8], i: usize) -> usize
-    requires { ⌜ i < length (now bytes) ⌝ }
-    ensures { λ r. ⌜ r < 256 ⌝ }
+pub fn u16_at(bytes: &[u8], at: usize) -> usize
+    ensures { λ r. ⌜ (r ≡ numberAt 2 (now (bytes .entry)) at) × (r < 0x1_0000) ⌝ }
 {
-    wide(bytes[i])
+    recorded::number_at(bytes, at, 2) as usize
 }
 
-pub fn u16_at(bytes: &[u8], i: usize) -> usize
-    requires { ⌜ i + 2 ≤ length (now bytes) ⌝ }
-    ensures { λ r. ⌜ r < 0x1_0000 ⌝ }
+pub fn u64_at(bytes: &[u8], at: usize) -> u64
+    ensures { λ r. ⌜ r ≡ numberAt 8 (now (bytes .entry)) at ⌝ }
 {
-    u8_at(bytes, i) + u8_at(bytes, i + 1) * 0x100
+    recorded::number_at(bytes, at, 8)
 }
 
-pub fn u32_at(bytes: &[u8], i: usize) -> u32
-    requires { ⌜ i + 4 ≤ length (now bytes) ⌝ }
-{
-    (u16_at(bytes, i) + u16_at(bytes, i + 2) * 0x1_0000) as u32
-}
-
-pub fn u64_at(bytes: &[u8], i: usize) -> u64
-    requires { ⌜ i + 8 ≤ length (now bytes) ⌝ }
-{
-    slices::word(bytes, i)
+pub fn rest(bytes: &[u8], from: usize) -> &[u8] {
+    recorded::part(bytes, from, bytes.len())
 }

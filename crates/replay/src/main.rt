@@ -3,12 +3,9 @@ mod fields;
 mod lines;
 mod payloads;
 mod programs;
-mod tables;
 mod text;
 mod varints;
 
-ghost use Prim.Native.Nat.{_≤_};
-ghost use lib.ListN.{length};
 use libc::STDOUT_FILENO;
 
 // What the records of a file are of.
@@ -30,10 +27,8 @@ enum Replayed {
     Differs(u64),
 }
 
-// The length of the first record, or 0 where it is cut short or our answer is another.
-fn first(kind: Recorded, records: &[u8]) -> usize
-    ensures { λ r. ⌜ r ≤ length (now (records .entry)) ⌝ }
-{
+// The length of the first record, or 0 where our answer is another. What a record that is cut short lacks counts as zeros.
+fn first(kind: Recorded, records: &[u8]) -> usize {
     match kind {
         Recorded::Uvarint => varints::read(records, false),
         Recorded::Ivarint => varints::read(records, true),
@@ -47,13 +42,16 @@ fn first(kind: Recorded, records: &[u8]) -> usize
     }
 }
 
-// Goes on to the first record that does not agree.
+// Goes on to the first record that does not agree or is cut short.
 fn replay_records(kind: Recorded, records: &[u8]) -> Replayed {
     let mut at = 0;
     let mut count: u64 = 0;
     while at < records.len() {
         let used = first(kind, &records[at..]);
         if used == 0 {
+            return Replayed::Differs(count);
+        }
+        if records.len() - at < used {
             return Replayed::Differs(count);
         }
         at += used;

@@ -1,20 +1,11 @@
 // Byte strings tested for UTF-8.
-ghost use Prim.Native.Nat.{_≤_};
-ghost use lib.ListN.{length};
 use crate::fields;
 
 // Length u16, bytes, 1 for UTF-8 or else 0 u8.
-pub fn tested(records: &[u8]) -> usize
-    ensures { λ r. ⌜ r ≤ length (now (records .entry)) ⌝ }
-{
-    if records.len() < 2 {
-        return 0;
-    }
-    let end = fields::u16_at(records, 0) + 2;
-    if records.len() < end + 1 {
-        return 0;
-    }
-    let found: usize = if utf8::is_utf8(&records[2..end]) {
+pub fn tested(records: &[u8]) -> usize {
+    let size = fields::u16_at(records, 0);
+    let end = size + 2;
+    let found: usize = if utf8::is_utf8(recorded::part(records, 2, size)) {
         1
     } else {
         0

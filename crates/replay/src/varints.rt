@@ -1,12 +1,10 @@
 // Varints read and written.
-ghost use Prim.Native.Nat.{_≤_};
-ghost use lib.ListN.{length};
 use crate::fields;
 use varint::Varint;
 
 // The refusal or 0, then number and bytes used, which are 0 at a refusal.
 struct Answer {
-    status: usize,
+    status: u64,
     value: u64,
     used: usize,
 }
@@ -28,7 +26,7 @@ fn answer_of(bytes: &[u8], signed: bool) -> Answer {
             used: next,
         },
         Varint::Refused(number, _) => Answer {
-            status: number as usize,
+            status: number,
             value: 0,
             used: 0,
         },
@@ -36,48 +34,26 @@ fn answer_of(bytes: &[u8], signed: bool) -> Answer {
 }
 
 // Length u8, bytes, status u8, value u64, used u8.
-pub fn read(records: &[u8], signed: bool) -> usize
-    ensures { λ r. ⌜ r ≤ length (now (records .entry)) ⌝ }
-{
-    if records.len() < 1 {
-        return 0;
-    }
-    let end = fields::u8_at(records, 0) + 1;
-    if records.len() < end + 10 {
-        return 0;
-    }
-    let found = answer_of(&records[1..end], signed);
-    let agrees = (found.status == fields::u8_at(records, end))
+pub fn read(records: &[u8], signed: bool) -> usize {
+    let size = fields::u8_at(records, 0);
+    let end = size + 1;
+    let found = answer_of(recorded::part(records, 1, size), signed);
+    let agrees = (found.status == recorded::number_at(records, end, 1))
         & (found.value == fields::u64_at(records, end + 1))
         & (found.used == fields::u8_at(records, end + 9));
     if agrees { end + 10 } else { 0 }
 }
 
 // Number u64, length u8, bytes.
-pub fn written(records: &[u8]) -> usize
-    ensures { λ r. ⌜ r ≤ length (now (records .entry)) ⌝ }
-{
-    if records.len() < 9 {
-        return 0;
-    }
+pub fn written(records: &[u8]) -> usize {
     let n = fields::u64_at(records, 0);
-    let length = fields::u8_at(records, 8);
-    let end = length + 9;
+    let size = fields::u8_at(records, 8);
     let width = varint::uvarint_width(n);
-    if records.len() < end {
-        return 0;
-    }
-    if width != length {
-        return 0;
-    }
     let mut out = [0u8; 10];
     if out.len() < width {
         return 0;
     }
     varint::write_uvarint(&mut out, 0, n);
-    if slices::equal_parts(&out, 0, records, 9, width) {
-        end
-    } else {
-        0
-    }
+    let agrees = width == size && recorded::bytes_agree(&out, recorded::part(records, 9, size), 0);
+    if agrees { size + 9 } else { 0 }
 }

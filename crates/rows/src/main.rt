@@ -6,24 +6,34 @@ ghost use Rattle.slices.specs.Put.{put};
 ghost use Rattle.rows.specs.Listed.{listed};
 use libc::STDIN_FILENO;
 use libc::STDOUT_FILENO;
+use payload::Program;
 use payload::Read;
 
 // The most bytes of a payload that is listed.
 const PAYLOAD: usize = 4096;
 
-// The text of the listing, put into the buffer, and its length: at most 512 lines of 127 bytes, and one of 43.
+// What its tables hold.
+const ROWS: usize = 512;
+
+const SPANS: usize = 1024;
+
+const STARTS: usize = 512;
+
+const STRINGS: usize = 256;
+
+// The text of the listing, put into the buffer, and its length: a line of at most 127 bytes for each row, and one of 43.
 fn list_payload(bytes: &[u8], out: &mut [u8; 65536]) -> usize
     ensures { λ r. ⌜ r ≡ length (listed (now (bytes .entry))) ⌝ }
     ensures { λ _. ⌜ now (out .exit) ≡ put (now (out .entry)) 0 (listed (now (bytes .entry))) ⌝ }
     ensures { λ r. ⌜ Counts r (now (out .exit)) ⌝ }
 {
-    let mut rows = [0u64; 2560];
+    let mut rows = [0u64; Program::ROW_WIDTH * ROWS];
     if PAYLOAD < bytes.len() {
         return listing::put_listing(Read::Refused(16, 0), &rows, out);
     }
-    let mut spans = [0u64; 2048];
-    let mut starts = [0u32; 512];
-    let mut pool = [0u64; 512];
+    let mut spans = [0u64; 2 * SPANS];
+    let mut starts = [0u32; STARTS];
+    let mut pool = [0u64; 2 * STRINGS];
     let answer = deserialize::deserialize_payload(
         bytes,
         b"",
@@ -37,7 +47,7 @@ fn list_payload(bytes: &[u8], out: &mut [u8; 65536]) -> usize
 
 // One byte more than a payload may have is read, so that a longer one is seen.
 fn main() {
-    let mut input = [0u8; 4097];
+    let mut input = [0u8; PAYLOAD + 1];
     let n = io::read_full(STDIN_FILENO, &mut input);
     let mut text = io::large_buffer();
     let size = list_payload(&input[..n], &mut text);

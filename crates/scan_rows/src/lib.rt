@@ -9,6 +9,7 @@ ghost use Rattle.scan_rows.specs.Row.{rowCount, wordAt, tagAt, countAt, 
 ghost use Rattle.scan_rows.specs.Under.{rowsUnder, Skip, Entries, scanUnder, scanEntries, scanChunkOrField, scanField, scanTemplate};
 ghost use Rattle.scan_rows.specs.Found.{WholeRows, Scanned, Answers};
 ghost use Rattle.scan_rows.specs.Code.{codeAt, codeTotal, spansFit};
+ghost use Rattle.payload.specs.Rows.{rowWidth};
 ghost use Rattle.payload.specs.Spans.{smallSpans};
 ghost use Rattle.payload.specs.Sound.{tables, spansOf, allStarts, lineSound, scriptOf};
 ghost use Rattle.slices.specs.Same.{same};
@@ -18,10 +19,7 @@ ghost use Rattle.payload.specs.Choice.{_and_};
 ghost use Rattle.payload.specs.Scan.{anyRow, scanValue};
 ghost use Rattle.payload.specs.Reading.{readMany};
 ghost use Rattle.scan_rows.specs.Fits.{numberFits, wordsFit};
-
-const ROW_WIDTH: usize = 5;
-
-const DEPTH_LIMIT: usize = 32;
+use payload::Program;
 
 // The row after what was scanned, or the first row that breaks a rule.
 enum Scan {
@@ -38,10 +36,10 @@ pub enum Soundness {
 // ---- the words of a row
 
 fn word_at(rows: &[u64], i: usize, k: u64) -> u64
-    requires { ⌜ (i < rowCount (now rows)) × (k < 5) ⌝ }
+    requires { ⌜ (i < rowCount (now rows)) × (k < rowWidth) ⌝ }
     ensures { λ r. ⌜ (r ≡ wordAt (now (rows .entry)) i k) × ((j : ℕ) → wordAt (now (rows .entry)) i j < 2 ^ 64) ⌝ }
 {
-    rows[ROW_WIDTH * i + k as usize]
+    rows[Program::ROW_WIDTH * i + k as usize]
 }
 
 // A number that a row holds, by its test.
@@ -105,10 +103,10 @@ fn item_fits(store: &[u8], test: u64, a: u64, b: u64) -> bool
 // The words of row i from word k on are 0.
 fn zero_from(rows: &[u64], i: usize, k: u64) -> bool
     requires { ⌜ i < rowCount (now rows) ⌝ }
-    ensures { λ r. ⌜ r ≡ zerosFrom (now (rows .entry)) i k (5 - k) ⌝ }
+    ensures { λ r. ⌜ r ≡ zerosFrom (now (rows .entry)) i k (rowWidth - k) ⌝ }
 {
     let mut j = k;
-    while j < 5 {
+    while j < Program::ROW_WIDTH as u64 {
         if word_at(rows, i, j) != 0 {
             return false;
         }
@@ -197,7 +195,7 @@ fn is_key_tag(tag: u64) -> bool
 fn key_fits(store: &[u8], rows: &[u64], i: usize) -> bool
     ensures { λ r. ⌜ r ≡ keyFits (now (store .entry)) (now (rows .entry)) i ⌝ }
 {
-    if rows.len() / ROW_WIDTH <= i {
+    if rows.len() / Program::ROW_WIDTH <= i {
         return false;
     }
     if !is_key_tag(word_at(rows, i, 0)) {
@@ -251,7 +249,7 @@ fn key_seen(store: &[u8], rows: &[u64], width: u64, first: usize, i: usize) -> b
 fn is_tagged(rows: &[u64], tag: u64, i: usize) -> bool
     ensures { λ r. ⌜ r ≡ isTagged (now (rows .entry)) tag i ⌝ }
 {
-    if rows.len() / ROW_WIDTH <= i {
+    if rows.len() / Program::ROW_WIDTH <= i {
         return false;
     }
     word_at(rows, i, 0) == tag
@@ -289,7 +287,7 @@ fn scan_value(depth: usize, store: &[u8], rows: &[u64], i: usize) -> Scan
     if depth == 0 {
         return Scan::Bad(i);
     }
-    if rows.len() / ROW_WIDTH <= i {
+    if rows.len() / Program::ROW_WIDTH <= i {
         return Scan::Bad(i);
     }
     if 26 < word_at(rows, i, 0) {
@@ -450,7 +448,7 @@ fn code_is(rows: &[u64], count: u64) -> bool
 {
     let mut left = count;
     let mut i: usize = 0;
-    while i < rows.len() / ROW_WIDTH {
+    while i < rows.len() / Program::ROW_WIDTH {
         let n = code_length(rows, i);
         if left < n {
             return false;
@@ -537,9 +535,9 @@ pub fn scan_tables(
     requires { ⌜ length (now spans) ≡ 2 * (length (now spans) / 2) ⌝ }
     ensures { λ r. ⌜ Answers r (scriptOf (tables (now (store .entry)) (now (rows .entry)) (now (spans .entry)) (now (starts .entry)) flag «name_o» «name_n»)) ⌝ }
 {
-    match scan_untagged(DEPTH_LIMIT, store, rows, 32, 0) {
+    match scan_untagged(Program::DEPTH, store, rows, 32, 0) {
         Scan::Next(j) => {
-            if j < rows.len() / ROW_WIDTH {
+            if j < rows.len() / Program::ROW_WIDTH {
                 return Soundness::Unsound(j);
             }
             if !spans_fit(rows, spans) {

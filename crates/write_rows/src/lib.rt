@@ -11,6 +11,7 @@ ghost use Rattle.payload.specs.Pool.{indexOf};
 ghost use Rattle.payload.specs.Spans.{writeCode, writeRuns};
 ghost use Rattle.payload.specs.Sound.{spansOf};
 ghost use Rattle.payload.specs.Rows.{rowWidth};
+ghost use Rattle.payload.specs.Tables.{sizeLimit};
 ghost use Rattle.payload.specs.Writing.{tagByte, writeStarts};
 ghost use Rattle.emit.specs.Emit.{further, Ready, Emitted};
 ghost use Rattle.pool_index.specs.Strings.{bytesAt, poolStrings, distinct, writePool};
@@ -19,10 +20,10 @@ ghost use Rattle.write_code.specs.Runs.{Positions};
 ghost use Rattle.write_rows.specs.Walk.{held, rowCount, rowWord, itemBytes, itemsBytes, headBytes, spanAfter, rowsUnder, walkRow, walk};
 ghost use Rattle.write_rows.specs.Payload.{lineBytes, payloadBytes, walkDepth, WrittenOut};
 ghost use Rattle.write_rows.specs.Reached.{Writable, Reached};
+use payload::Program;
 
-const ROW_WIDTH: usize = 5;
-
-const WALK_DEPTH: usize = 65;
+// A value is a row, or a row and one that has no value of its own; the outer chunk is one more.
+const WALK_DEPTH: usize = 2 * Program::DEPTH + 1;
 
 // The next row, the next span, the place in the payload, and the pool index that the next string is expected to have.
 struct Place {
@@ -44,8 +45,9 @@ fn word_at(rows: &[u64], i: usize, k: u64) -> u64
     requires { ⌜ i < rowCount (now rows) ⌝ }
     ensures { λ r. ⌜ r ≡ rowWord (now (rows .entry)) i k ⌝ }
 {
-    if k < 5 {
-        return rows[ROW_WIDTH * i + k as usize];
+    let word = k as usize;
+    if word < Program::ROW_WIDTH {
+        return rows[Program::ROW_WIDTH * i + word];
     }
     0
 }
@@ -108,7 +110,7 @@ fn write_chunk(
 // Strings come in the pool's order: after the one that was expected the next is.
 fn expect_next(expected: usize, found: usize) -> usize {
     if found == expected {
-        if expected < 16777216 {
+        if expected < Program::SIZE {
             return expected + 1;
         }
     }
@@ -418,7 +420,7 @@ fn rows_under(rows: &[u64], i: usize) -> u64
     }
     let n = pool_index::cut(
         word_at(rows, i, row_layout::count_word(tag)),
-        rows.len() / ROW_WIDTH,
+        rows.len() / Program::ROW_WIDTH,
     ) as u64;
     if under == 3 {
         return 2 * n;
@@ -557,7 +559,7 @@ fn write_rows(
     let mut here = st;
     let mut k: u64 = 0;
     while k < count {
-        if rows.len() / ROW_WIDTH <= here.row {
+        if rows.len() / Program::ROW_WIDTH <= here.row {
             return here;
         }
         if row_layout::under_form(word_at(rows, here.row, 0)) == 0 {
@@ -707,7 +709,7 @@ fn write_all(
     write_line_index(comparing, payload, out, b, store, pool, flag, o, n, starts)
 }
 
-// How long the payload is: 16777217 where it is above the size limit.
+// How long the payload is: one more than the size limit where it is above that.
 pub fn measure(
     store: &[u8],
     pool: &[u64],
@@ -750,7 +752,7 @@ pub fn agrees(
     n: u64,
     starts: &[u32],
 ) -> bool
-    requires { ⌜ length (now payload) ≤ 16777216 ⌝ }
+    requires { ⌜ length (now payload) ≤ sizeLimit ⌝ }
     requires { ⌜ Writable (now store) (now pool) (now spans) ⌝ }
     ensures { λ r. ⌜ r ≡ same (payloadBytes (held (now (store .entry)) (now (pool .entry)) (now (rows .entry)) (now (spans .entry))) flag (bytesAt (now (store .entry)) o n) (now (starts .entry))) (now (payload .entry)) ⌝ }
 {
@@ -784,7 +786,7 @@ pub fn write_out(
     n: u64,
     starts: &[u32],
 ) -> usize
-    requires { ⌜ (length (payloadBytes (held (now store) (now pool) (now rows) (now spans)) flag (bytesAt (now store) o n) (now starts)) ≤ length (now out)) × (length (now out) ≤ 16777216) ⌝ }
+    requires { ⌜ (length (payloadBytes (held (now store) (now pool) (now rows) (now spans)) flag (bytesAt (now store) o n) (now starts)) ≤ length (now out)) × (length (now out) ≤ sizeLimit) ⌝ }
     requires { ⌜ Writable (now store) (now pool) (now spans) ⌝ }
     ensures { λ r. ⌜ WrittenOut (payloadBytes (held (now (store .entry)) (now (pool .entry)) (now (rows .entry)) (now (spans .entry))) flag (bytesAt (now (store .entry)) o n) (now (starts .entry))) (now (out .entry)) (now (out .exit)) r ⌝ }
 {

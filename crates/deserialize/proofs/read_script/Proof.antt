@@ -15,14 +15,14 @@ mul-zero-u64-from c =
     let at-state = c .before .before .before .before .before .before .before .before .before .before in
     let at-read-outer = at-state .before .before .before .before .before .before in
     let pre = at-read-outer .before .before .before .before .before .before .before .before .before .pre in
-    let outer = ran-of (at-state .state .given .1) (at-read-outer .read-outer .ensures) in omega (arith, outer .1 .used, pre .0 .few)
+    let outer = ran-of (at-state .state .given .1) (at-read-outer .read-outer .ensures .did) in omega (arith, outer .1 .used, pre .0 .few)
 
 mul-zero-u64-from-2 : tie.Need-mul-zero-u64-from-2
 mul-zero-u64-from-2 c =
     let at-state = c .before .before .before .before .before .before .before .before .before .before .before .before .before .before .before in
     let at-read-outer = at-state .before .before .before .before .before .before in
     let pre = at-read-outer .before .before .before .before .before .before .before .before .before .pre in
-    let outer = ran-of (at-state .state .given .1) (at-read-outer .read-outer .ensures) in omega (arith, outer .1 .covered, pre .0 .few-spans)
+    let outer = ran-of (at-state .state .given .1) (at-read-outer .read-outer .ensures .did) in omega (arith, outer .1 .covered, pre .0 .few-spans)
 
 returns : tie.Need-returns
 returns c =
@@ -34,7 +34,7 @@ returns c =
     let at-read-outer = at-read-line-index .before .before .before .before .before .before .before .before .before in
     let start = at-read-outer .before .before .before .before .before .before .before .before .before in
     let asked = start .pre in
-    let outer = ran-of (state .given .1) (at-read-outer .read-outer .ensures) in
+    let outer = ran-of (state .given .1) (at-read-outer .read-outer .ensures .did) in
     let lines = was-lines (at-read-line-index .read-line-index .ensures) (at-flag .flag .given .1) in
     accepted-leaves (start .args .names .now) (start .args .at) (outer .1) (asked .0) (asked .1 .1 .0) (asked .1 .1 .1) (asked .1 .0) lines
     (at-zero-u64-from .zero-u64-from .ensures) (at-zero-u64-from2 .zero-u64-from2 .ensures) (c .before .before .zero-u32-from .ensures)
@@ -48,7 +48,7 @@ returns-2 c =
     let args = at-read-outer .before .before .before .before .before .before .before .before .before .args in
     let lines = at-zero-u64-from3 .before .before .before .before .before .before .before .read-line-index .ensures in
     let n = at-zero-u64-from3 .before .before .before .n .given in
-    let outer = ran-of (at-state .state .given .1) (read-outer .ensures) in
+    let outer = ran-of (at-state .state .given .1) (read-outer .ensures .did) in
     refused-leaves (no-lines-read (args .names .now) (args .at) (outer .1) (no-lines lines (n .1)))
     (at-zero-u64-from3 .zero-u64-from3 .ensures ∙ zeroFrom-zero (read-outer .last .1 .1 .1 .0) ∙ ap zeros (read-outer .kept .1 .1 .1 .0))
     (c .before .before .zero-u64-from4 .ensures ∙ zeroFrom-zero (read-outer .last .1 .1 .1 .1 .0) ∙ ap zeros (read-outer .kept .1 .1 .1 .1 .0))
@@ -60,7 +60,7 @@ returns-3 c =
     let read-outer = at-n2 .before .before .before .before .before .before .read-outer in
     let cleared = c .before .before .before .before .before .before .clear-script .ensures in
     let kept = read-outer .kept .1 .1 .1 in
-    refused-leaves (script-no-chunk _ _ (no-of (at-n2 .n2 .given .1) (read-outer .ensures))) (cleared .0 ∙ ap zeros (kept .0))
+    refused-leaves (script-no-chunk _ _ (no-of (at-n2 .n2 .given .1) (read-outer .ensures .did))) (cleared .0 ∙ ap zeros (kept .0))
     (cleared .1 .0 ∙ ap zeros (kept .1 .0)) (cleared .1 .1)
 
 pub read-script-spec : {M : Type 1} → statement M

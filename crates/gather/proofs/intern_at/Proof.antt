@@ -1,5 +1,5 @@
 -- `gather::intern_at` meets its contract: the part cut to the store becomes the last entry, unless an entry has its bytes.
-use Rattle.hash.specs.Hash.{hashOf}
+use Rattle.trie.specs.Hash.{hashOf}
 use Rattle.gather.specs.Laws.Entries.{mark-is}
 use Rattle.gather.specs.Laws.Interning.{capacity-is, cut-bytes, lent-all}
 use Rattle.gather.specs.Laws.Searching.{found-as}

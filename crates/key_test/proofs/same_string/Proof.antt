@@ -1,10 +1,9 @@
 -- `same_string` meets its contract: lengths first, then offsets, then bytes.
 use Rattle.key_test.proofs.KeyTest.{stands-in}
-use borrow.Author.Tests.{not-true, not-false}
+use borrow.Author.Tests.{not-true, not-false, eq-eqb, ne-eqb}
 use Rattle.key_test.specs.Keys.{sameString, stands}
 use mathlib.Core.Path.{_≡_, sym, _∙_}
 use mathlib.Core.Bool.{true, false}
-use borrow.Author.Tests.{eq-eqb, ne-eqb}
 use borrow.Author.Needs.{needs}
 use Rattle.key_test.proofs.same_string.Statement.{statement}
 use Rattle.key_test.proofs.same_string.Tie as tie

@@ -6,13 +6,12 @@ use mathlib.Core.Path.{_∙_, _≡_, ap, refl, subst, sym}
 use Prim.Native.Nat.{_+_, _-_, _/_, _<_, _≤_, min, suc, zero, ℕ}
 use native.Mathlib.Omega.{arith}
 use lib.Dec.{eqb, ltb}
-use lib.ListN.{getD, length, length-replicate, length-set, set}
+use lib.ListN.{getD, length, length-set, set}
 use lib.Seq.{getD-set-other, getD-set-same, set-out}
 use borrow.Author.Tests.{eqb-false, eqb-true, ltb-false, ltb-true}
 use Rattle.slices.specs.Laws.Same.{same-eq, same-refl}
 use Rattle.slices.specs.Same.{same}
-use Rattle.slices.specs.Laws.Zeros.{zeroFrom-zero}
-use Rattle.slices.specs.Zeros.{zeroFrom, zeros}
+use Rattle.slices.specs.Zeros.{zeros}
 use Rattle.payload.specs.Choice.{_and_, _or_, if_then_else_}
 use Rattle.payload.specs.Laws.Pool.{and-both, false≢true}
 use Rattle.payload.specs.Pool.{isIn}
@@ -257,20 +256,23 @@ module _ {store pool : List ℕ} {base buckets links : ℕ} {heads nexts : List 
 
 ---- all chunks
 
-pub record Differ (store pool : List ℕ) (base links : ℕ) (nexts : List ℕ) : Type 0 where
-  pub falls : Falls nexts
-  pub nexts-long : length nexts ≡ links
-  pub differ : (i j : ℕ) → i < base → i < j → j < length pool / 2 → same (entryBytes store pool i) (entryBytes store pool j) ≡ false
+module _ {store pool : List ℕ} where
+  -- a chunk that goes to the pool's end, and beyond
+  pub tested-last : (base links : ℕ) (r : Bool) → length pool / 2 ≤ base + links → ChunkTested store pool base (base + links) r → ChunkTested store pool base (length pool / 2) r
+  tested-last base links true h t = record { tested = λ i j a b. t .tested i j a (omega arith) }
+  tested-last base links false h t = record { tested = t .tested }
 
-pub differ-start : (store pool nexts : List ℕ) → Falls nexts → Differ store pool 0 (length nexts) nexts
-differ-start store pool nexts f = record { falls = f; nexts-long = refl; differ = λ i j l. absurd (omega arith) }
+  -- a chunk, once all after it differ
+  pub tested-then : (base links : ℕ) (r : Bool) → ChunkTested store pool (base + links) (length pool / 2) true → ChunkTested store pool base (base + links) r → ChunkTested store pool base (length pool / 2) r
+  tested-then base links true u t = record { tested = λ i j a b c d. go i j a b c d (ltb i (base + links)) refl }
+    where
+      go : (i j : ℕ) → base ≤ i → i < length pool / 2 → i < j → j < length pool / 2 → (q : Bool) → ltb i (base + links) ≡ q → same (entryBytes store pool i) (entryBytes store pool j) ≡ false
+      go i j a b c d true q = t .tested i j a (ltb-true i (base + links) q) c d
+      go i j a b c d false q = u .tested i j (ltb-false i (base + links) q) b c d
+  tested-then base links false u t = record { tested = t .tested }
 
-pub differ-more : {store pool : List ℕ} {base links : ℕ} {nexts nexts′ : List ℕ} → Differ store pool base links nexts → Falls nexts′ → length nexts′ ≡ length nexts → ChunkTested store pool base (base + length nexts) true → Differ store pool (base + length nexts′) links nexts′
-differ-more {store} {pool} {base} {links} {nexts} {nexts′} d f e t = record { falls = f; nexts-long = e ∙ d .nexts-long; differ = λ i j l a b. go i j l a b (ltb i base) refl }
-  where
-    go : (i j : ℕ) → i < base + length nexts′ → i < j → j < length pool / 2 → (t : Bool) → ltb i base ≡ t → same (entryBytes store pool i) (entryBytes store pool j) ≡ false
-    go i j l a b true q = d .differ i j (ltb-true i base q) a b
-    go i j l a b false q = t .tested i j (ltb-false i base q) (omega arith) a b
+  pub tested-not : (base links : ℕ) → ChunkTested store pool (base + links) (length pool / 2) false → ChunkTested store pool base (length pool / 2) false
+  tested-not base links u = record { tested = u .tested }
 
 not-in : (y : List ℕ) (l : List (List ℕ)) → ((j : ℕ) → j < length l → same y (getD l j []) ≡ false) → isIn y l ≡ false
 unfolding isIn
@@ -303,22 +305,14 @@ not-distinct (y ∷ l) (suc i) (suc j) h g e = go (not (isIn y l)) (not-distinct
     go true q = q
     go false q = refl
 
-module _ (store pool : List ℕ) where
-  pub differ-end : {base links : ℕ} {nexts : List ℕ} → Differ store pool base links nexts → length pool / 2 ≤ base → true ≡ distinct (plainStrings store pool)
-  differ-end d h = sym (all-distinct (plainStrings store pool) (λ i j l m.
-      let n : j < length pool / 2 = omega (arith, length-plain store pool) in
-      rw (plain-at store pool i (omega arith), plain-at store pool j n) (d .differ i j (omega arith) l n)))
-
-  pub differ-not : {base end : ℕ} → ChunkTested store pool base end false → false ≡ distinct (plainStrings store pool)
-  differ-not t =
-      let f = t .tested in
-      sym (not-distinct (plainStrings store pool) (f .0) (f .1) (f .2) (omega (arith, length-plain store pool, f .3)) (rw (plain-at store pool (f .0) (omega (arith, f .2, f .3)), plain-at store pool (f .1) (f .3)) (f .4)))
+-- no string of the pool stands twice
+pub all-tested : (store pool : List ℕ) (r : Bool) → ChunkTested store pool 0 (length pool / 2) r → r ≡ distinct (plainStrings store pool)
+all-tested store pool true t = sym (all-distinct (plainStrings store pool) (λ i j l m.
+    let n : j < length pool / 2 = omega (arith, length-plain store pool) in
+    rw (plain-at store pool i (omega arith), plain-at store pool j n) (t .tested i j (omega arith) (omega arith) l n)))
+all-tested store pool false t =
+    let f = t .tested in
+    sym (not-distinct (plainStrings store pool) (f .0) (f .1) (f .2) (omega (arith, length-plain store pool, f .3)) (rw (plain-at store pool (f .0) (omega (arith, f .2, f .3)), plain-at store pool (f .1) (f .3)) (f .4)))
 
 pub falls-zeros : (n : ℕ) → Falls (zeros n)
 falls-zeros n = record { falls = λ i. let e = getD-zeros n i in omega arith }
-
-pub cleared : (a l : List ℕ) → a ≡ zeroFrom 0 l → a ≡ zeros (length a)
-cleared a l e =
-    let z : a ≡ zeros (length l) = e ∙ zeroFrom-zero l in
-    let n : length a ≡ length l = ap length z ∙ length-replicate (length l) 0 in
-    z ∙ ap zeros (sym n)

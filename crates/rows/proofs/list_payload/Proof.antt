@@ -1,5 +1,5 @@
 -- `list_payload` meets its contract: its text is the listing of what the read leaves.
-use Prim.Native.Nat.{ℕ, _≤_}
+use Prim.Native.Nat.{ℕ, _*_, _≤_}
 use mathlib.Core.Path.{_≡_, sym, ap, _∙_}
 use mathlib.Core.List.{List, []}
 use native.Mathlib.Omega.{arith}
@@ -8,6 +8,7 @@ use lib.Seq.{length-take-le}
 use borrow.Author.Needs.{needs}
 use Rattle.io.specs.Counts.{Counts}
 use Rattle.slices.specs.Put.{put}
+use Rattle.payload.specs.Rows.{rowWidth}
 use Rattle.payload.specs.Tables.{capacitiesOf}
 use Rattle.rows.specs.Listed.{tableReading}
 use Rattle.rows.specs.Laws.Listed.{listed-long, listed-read, listed-rows}
@@ -37,7 +38,7 @@ put-listing-requires-2 c κs =
     let d = at-deserialize-payload .deserialize-payload in
     let known = at-deserialize-payload .before .before .before .before .before .before .before in
     let bytes = known .before .args .bytes .now in
-    let few = listed-rows (capacitiesOf 2560 2048 512 512) [] bytes (λ j. omega (arith, known .shared-slice-known .given j)) in
+    let few = listed-rows (capacitiesOf (rowWidth * 512) (2 * 1024) 512 (2 * 256)) [] bytes (λ j. omega (arith, known .shared-slice-known .given j)) in
     let h : listedRows (d .result) ≤ 512 = rw (d .ensures .answer) few in
     omega (arith, d .kept .1 .1 .0, c .put-listing-arg2 .given .0 .1)
 

@@ -19,7 +19,7 @@ use Rattle.payload.specs.declared.Read.{Read}
 use Rattle.payload.specs.declared.Read.the-variants.{Refused}
 use Rattle.listing.specs.Laws.Listing.{listing-padded}
 use Rattle.listing.specs.Listing.{listedRows, listing, rowLines}
-use Rattle.rows.specs.Listed.{listed, tableReading}
+use Rattle.rows.specs.Listed.{listed, listedLimit, tableReading}
 
 module _ (c : Capacities) (names p : List ℕ) (small : Bytes p) where
   read-rows : (x : Result Payload) → readPayload c (isListed names) (start p) ≡ x → listedRows (readAnswer x) ≤ c .rows
@@ -37,13 +37,13 @@ module _ (c : Capacities) (names p : List ℕ) (small : Bytes p) where
   listed-rows = chosen (ltb sizeLimit (length p))
 
 -- a payload that is read
-pub listed-read : (bytes : List ℕ) {rows spans starts pool rows′ spans′ starts′ pool′ : List ℕ} {r : Read} → length bytes ≤ 4096
+pub listed-read : (bytes : List ℕ) {rows spans starts pool rows′ spans′ starts′ pool′ : List ℕ} {r : Read} → length bytes ≤ listedLimit
     → Leaves (tableReading bytes) rows spans starts pool rows′ spans′ starts′ pool′ r → listing r rows′ ≡ listed bytes
 unfolding listed if_then_else_
-listed-read bytes {rows} h l = rw (le-ltb 4096 (length bytes) h)
+listed-read bytes {rows} h l = rw (le-ltb listedLimit (length bytes) h)
     (ap₂ listing (l .answer) (l .rows-are) ∙ listing-padded (readAnswer (tableReading bytes)) (usedRows (tableReading bytes)) (length rows))
 
 -- one that is too long
-pub listed-long : (bytes rows : List ℕ) → 4096 < length bytes → listing (Refused 16 0) rows ≡ listed bytes
+pub listed-long : (bytes rows : List ℕ) → listedLimit < length bytes → listing (Refused 16 0) rows ≡ listed bytes
 unfolding listed if_then_else_ listing listedRows rowLines
-listed-long bytes rows h = rw (lt-ltb 4096 (length bytes) h)
+listed-long bytes rows h = rw (lt-ltb listedLimit (length bytes) h)

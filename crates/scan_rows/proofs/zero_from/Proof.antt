@@ -2,16 +2,17 @@
 use mathlib.Core.Path.{_≡_, refl, sym, _∙_}
 use Prim.Native.Nat.{_-_}
 use borrow.Author.Needs.{needs}
+use Rattle.payload.specs.Rows.{rowWidth}
 use Rattle.scan_rows.specs.Laws.Fits.{zeros-more, zeros-stop, zeros-end}
 use Rattle.scan_rows.specs.Row.{zerosFrom}
 use Rattle.scan_rows.proofs.zero_from.Statement.{statement}
 use Rattle.scan_rows.proofs.zero_from.Tie as tie
 
 abbrev Inv-loop : tie.InvT-loop
-Inv-loop rows i k j₀ j = zerosFrom rows i k (5 - k) ≡ zerosFrom rows i j (5 - j)
+Inv-loop rows i k j₀ j = zerosFrom rows i k (rowWidth - k) ≡ zerosFrom rows i j (rowWidth - j)
 
 abbrev μ-loop : tie.MeasureT-loop
-μ-loop rows i k j₀ j = 5 - j
+μ-loop rows i k j₀ j = rowWidth - j
 
 loop-holds : tie.Need-loop-holds Inv-loop μ-loop
 loop-holds c = refl

@@ -10,7 +10,7 @@ use borrow.Author.Tests.{eq-eqb, le-leb, leb-false, leb-true, lt-leb, lt-ltb, lt
 use Rattle.payload.specs.Choice.{_and_, _or_, if_then_else_}
 use Rattle.payload.specs.Laws.Pool.{false≢true}
 use Rattle.payload.specs.Numbers.{NumberKind, bool, char, f32, f64, fitsKind, fitsSigned, handle, i16, i32, i64, i8, isScalar, u16, u32, u64, u8}
-use Rattle.payload.specs.Rows.{kindWidth, kindsWidth}
+use Rattle.payload.specs.Rows.{kindWidth, kindsWidth, rowWidth}
 use Rattle.payload.specs.Shapes.{ItemKind, isKeyTag, kindsOf, shape, shapes}
 use Rattle.row_layout.specs.Laws.Layout.{allFrom, shape-all}
 use Rattle.row_layout.specs.Layout.{afterFirst, countWord, firstTest, firstTestOf, itemTest, kidsRules, numberTest, secondTest, secondTestOf, secondWord, shapeRules, underRules, usedWords}
@@ -123,7 +123,7 @@ items-are store rows i (k ∷ l ∷ m ∷ ks) h w = absurd (omega arith)
 module _ (store rows : List ℕ) (i : ℕ) (w : (k : ℕ) → wordAt rows i k < 2 ^ 64) where
   pub row-fits-is : rowFits store rows i
       ≡ ((wordsFit store (firstTest (tagAt rows i)) (wordAt rows i 1) (wordAt rows i 2) and wordsFit store (secondTest (tagAt rows i)) (wordAt rows i (secondWord (tagAt rows i))) (wordAt rows i (secondWord (tagAt rows i) + 1)))
-      and zerosFrom rows i (usedWords (tagAt rows i)) (5 - usedWords (tagAt rows i)))
+      and zerosFrom rows i (usedWords (tagAt rows i)) (rowWidth - usedWords (tagAt rows i)))
   unfolding rowFits firstTest secondTest secondWord
   row-fits-is = rw (items-are store rows i (kindsOf (shape (tagAt rows i))) (few-kinds (tagAt rows i)) w)
 
@@ -138,17 +138,17 @@ leb-after o n e h = go (leb n (e - o)) refl
     go false q = sym (lt-leb (o + n) e (omega (arith, leb-false n (e - o) q)))
 
 module _ (rows : List ℕ) (i k : ℕ) where
-  pub zeros-more : k < 5 → wordAt rows i k ≡ 0 → zerosFrom rows i k (5 - k) ≡ zerosFrom rows i (k + 1) (5 - (k + 1))
+  pub zeros-more : k < rowWidth → wordAt rows i k ≡ 0 → zerosFrom rows i k (rowWidth - k) ≡ zerosFrom rows i (k + 1) (rowWidth - (k + 1))
   unfolding zerosFrom _and_
-  zeros-more h e = let z : 5 - k ≡ suc (5 - (k + 1)) = omega arith in rw z (rw (eq-eqb (wordAt rows i k) 0 e))
+  zeros-more h e = let z : rowWidth - k ≡ suc (rowWidth - (k + 1)) = omega arith in rw z (rw (eq-eqb (wordAt rows i k) 0 e))
 
-  pub zeros-stop : k < 5 → (wordAt rows i k ≡ 0 → ⊥) → zerosFrom rows i k (5 - k) ≡ false
+  pub zeros-stop : k < rowWidth → (wordAt rows i k ≡ 0 → ⊥) → zerosFrom rows i k (rowWidth - k) ≡ false
   unfolding zerosFrom _and_
-  zeros-stop h e = let z : 5 - k ≡ suc (5 - (k + 1)) = omega arith in rw z (rw (ne-eqb (wordAt rows i k) 0 e))
+  zeros-stop h e = let z : rowWidth - k ≡ suc (rowWidth - (k + 1)) = omega arith in rw z (rw (ne-eqb (wordAt rows i k) 0 e))
 
-  pub zeros-end : 5 ≤ k → zerosFrom rows i k (5 - k) ≡ true
+  pub zeros-end : rowWidth ≤ k → zerosFrom rows i k (rowWidth - k) ≡ true
   unfolding zerosFrom
-  zeros-end h = let z : 5 - k ≡ 0 = omega arith in rw z
+  zeros-end h = let z : rowWidth - k ≡ 0 = omega arith in rw z
 
 module _ (store rows : List ℕ) (i : ℕ) (w : (k : ℕ) → wordAt rows i k < 2 ^ 64) {t : ℕ} (et : t ≡ tagAt rows i) where
   pub first-unfit : {f a b : ℕ} → f ≡ firstTest t → a ≡ wordAt rows i 1 → b ≡ wordAt rows i 2 → wordsFit store f a b ≡ false → rowFits store rows i ≡ false
@@ -166,7 +166,7 @@ module _ (store rows : List ℕ) (i : ℕ) (w : (k : ℕ) → wordAt rows i k < 
       row-fits-is store rows i w ∙ rw (y, z)
 
   pub items-fit : {f a b g c d u : ℕ} → f ≡ firstTest t → a ≡ wordAt rows i 1 → b ≡ wordAt rows i 2 → wordsFit store f a b ≡ true
-      → g ≡ secondTest t → c ≡ wordAt rows i (secondWord t) → d ≡ wordAt rows i (secondWord t + 1) → wordsFit store g c d ≡ true → u ≡ usedWords t → rowFits store rows i ≡ zerosFrom rows i u (5 - u)
+      → g ≡ secondTest t → c ≡ wordAt rows i (secondWord t) → d ≡ wordAt rows i (secondWord t + 1) → wordsFit store g c d ≡ true → u ≡ usedWords t → rowFits store rows i ≡ zerosFrom rows i u (rowWidth - u)
   unfolding _and_
   items-fit {f} {a} {b} {g} {c} {d} {u} ef ea eb x eg ec ed x′ eu =
       let y : wordsFit store (firstTest (tagAt rows i)) (wordAt rows i 1) (wordAt rows i 2) ≡ true = rw (← et, ← ef, ← ea, ← eb) x in

@@ -40,36 +40,36 @@ module _ (rows : List ℕ) where
   pub row-start : (i : ℕ) → atRow rows i ≡ atWord rows i 0
   row-start i = let e : rowWidth * i ≡ rowWidth * i + 0 = omega arith in λ t. record { rest = drop (e t) rows; place = e t; rows = i; spans = 0 }
 
-  row-end : (i k : ℕ) → k ≡ 5 → withRow (atWord rows i k) ≡ atRow rows (i + 1)
+  row-end : (i k : ℕ) → k ≡ rowWidth → withRow (atWord rows i k) ≡ atRow rows (i + 1)
   row-end i k h = let e : rowWidth * i + k ≡ rowWidth * (i + 1) = omega arith in λ t. record { rest = drop (e t) rows; place = e t; rows = i + 1; spans = 0 }
 
   ---- unused words
 
   module _ (i : ℕ) (u : i < rowCount rows) where
-    zeros-scanned : (n k : ℕ) → k + n ≡ 5 → zeroWords n (atWord rows i k) ≡ pass (zerosFrom rows i k n) i (ok tt (atWord rows i 5))
+    zeros-scanned : (n k : ℕ) → k + n ≡ rowWidth → zeroWords n (atWord rows i k) ≡ pass (zerosFrom rows i k n) i (ok tt (atWord rows i rowWidth))
     unfolding zeroWords zerosFrom pure pass _>>=_ _>>_ andThen
-    zeros-scanned zero k h = let e : k ≡ 5 = omega arith in ap (λ (j : ℕ). ok tt (atWord rows i j)) e
+    zeros-scanned zero k h = let e : k ≡ rowWidth = omega arith in ap (λ (j : ℕ). ok tt (atWord rows i j)) e
     zeros-scanned (suc n) k h =
         rw (next-word i k (omega arith), must-pass, and-pass, zeros-scanned n (k + 1) (omega arith), pass-and)
 
-    finish-scanned : (n k : ℕ) (b : Bool) → k + n ≡ 5 → finishRow n b (atWord rows i k) ≡ pass (zerosFrom rows i k n) i (pass b i (ok tt (atRow rows (i + 1))))
+    finish-scanned : (n k : ℕ) (b : Bool) → k + n ≡ rowWidth → finishRow n b (atWord rows i k) ≡ pass (zerosFrom rows i k n) i (pass b i (ok tt (atRow rows (i + 1))))
     unfolding finishRow endRow _>>_ andThen
-    finish-scanned n k b h = rw (zeros-scanned n k h, and-pass) (rw (must-pass b (atWord rows i 5), and-pass) (rw (row-end i 5 refl)))
+    finish-scanned n k b h = rw (zeros-scanned n k h, and-pass) (rw (must-pass b (atWord rows i rowWidth), and-pass) (rw (row-end i rowWidth refl)))
 
     ---- items
 
     module _ (store : List ℕ) where
-      part-scanned : (k : ℕ) → k + 2 ≤ 5 → scanPart store (atWord rows i k) ≡ pass (leb (wordAt rows i k + wordAt rows i (k + 1)) (length store)) i (ok (partAt store (wordAt rows i k) (wordAt rows i (k + 1))) (atWord rows i (k + 2)))
+      part-scanned : (k : ℕ) → k + 2 ≤ rowWidth → scanPart store (atWord rows i k) ≡ pass (leb (wordAt rows i k + wordAt rows i (k + 1)) (length store)) i (ok (partAt store (wordAt rows i k) (wordAt rows i (k + 1))) (atWord rows i (k + 2)))
       unfolding scanPart pure _>>=_ _>>_ andThen
       part-scanned k h =
           let e : k + 1 + 1 ≡ k + 2 = omega arith in
           rw (next-word i k (omega arith), next-word i (k + 1) (omega arith), must-pass, and-pass, e)
 
-      string-scanned : (k : ℕ) → k + 2 ≤ 5 → scanString store (atWord rows i k) ≡ pass (partIsUtf8 store (wordAt rows i k) (wordAt rows i (k + 1))) i (ok (partAt store (wordAt rows i k) (wordAt rows i (k + 1))) (atWord rows i (k + 2)))
+      string-scanned : (k : ℕ) → k + 2 ≤ rowWidth → scanString store (atWord rows i k) ≡ pass (partIsUtf8 store (wordAt rows i k) (wordAt rows i (k + 1))) i (ok (partAt store (wordAt rows i k) (wordAt rows i (k + 1))) (atWord rows i (k + 2)))
       unfolding scanString pure partIsUtf8 _>>=_ _>>_ andThen
       string-scanned k h = rw (part-scanned k h, and-pass, must-pass, and-pass, pass-both)
 
-      item-scanned : (x : ItemKind) (k : ℕ) → k + kindWidth x ≤ 5
+      item-scanned : (x : ItemKind) (k : ℕ) → k + kindWidth x ≤ rowWidth
           → scanItem store x (atWord rows i k) ≡ pass (itemFits store x (wordAt rows i k) (wordAt rows i (k + 1))) i (ok (itemOf store x (wordAt rows i k) (wordAt rows i (k + 1))) (atWord rows i (k + kindWidth x)))
       unfolding scanItem itemFits itemOf kindWidth pure _>>=_ _>>_ andThen
       item-scanned (ItemKind.number n) k h = rw (next-word i k (omega arith), must-pass, and-pass)
@@ -78,7 +78,7 @@ module _ (rows : List ℕ) where
       item-scanned ItemKind.recordName k h = rw (string-scanned k h, and-pass)
       item-scanned ItemKind.code k h = rw (part-scanned k h, and-pass)
 
-      items-scanned : (xs : List ItemKind) (k : ℕ) → k + kindsWidth xs ≤ 5
+      items-scanned : (xs : List ItemKind) (k : ℕ) → k + kindsWidth xs ≤ rowWidth
           → scanItems store xs (atWord rows i k) ≡ pass (itemsFit store rows i k xs) i (ok (itemsOf store rows i k xs) (atWord rows i (k + kindsWidth xs)))
       unfolding scanItems itemsFit itemsOf kindsWidth pure pass _>>=_ andThen
       items-scanned [] k h = let e : k ≡ k + 0 = omega arith in ap (λ (j : ℕ). ok [] (atWord rows i j)) e
@@ -89,7 +89,7 @@ module _ (rows : List ℕ) where
       ---- a row after its tag
 
       -- a count, read where the shape has one
-      count-scanned : (kids : Kids) (k : ℕ) → k + length (kidsCountWords kids 0) ≤ 5
+      count-scanned : (kids : Kids) (k : ℕ) → k + length (kidsCountWords kids 0) ≤ rowWidth
           → (n : ℕ) × (scanCount kids (atWord rows i k) ≡ ok n (atWord rows i (k + length (kidsCountWords kids 0)))) × ((r : RowScan) → scanKids r kids n ≡ scanKids r kids (wordAt rows i k))
       unfolding scanCount kidsCountWords scanKids pure
       count-scanned noValue k h = let e : k ≡ k + 0 = omega arith in (0, ap (λ (j : ℕ). ok 0 (atWord rows i j)) e, λ r. refl)
@@ -106,33 +106,33 @@ module _ (rows : List ℕ) where
       withUnder r t sh = _>>=_ (scanUnder store r sh (wordAt rows i (1 + kindsWidth (kindsOf sh)))) (λ ts. pure (nodeOf t (itemsOf store rows i 1 (kindsOf sh)) ts)) (atRow rows (i + 1))
 
       module _ (r : RowScan) (g : Test) (t : ℕ) where
-        with-kids-scanned : (kinds : List ItemKind) (kids : Kids) → suc (kindsWidth kinds + length (kidsCountWords kids 0)) ≤ 5
+        with-kids-scanned : (kinds : List ItemKind) (kids : Kids) → suc (kindsWidth kinds + length (kidsCountWords kids 0)) ≤ rowWidth
             → scanWithKids store r g t kinds kids (atWord rows i 1) ≡ headed (withKids kinds kids) (g t (forgetItems (itemsOf store rows i 1 kinds))) (withUnder r t (withKids kinds kids))
         unfolding scanWithKids scanUnder kindsOf countWords unusedWords _>>=_ _>>_ andThen
         with-kids-scanned kinds kids h =
             let c = count-scanned kids (1 + kindsWidth kinds) (omega arith) in
             let e : 1 + kindsWidth kinds + length (kidsCountWords kids 0) ≡ suc (kindsWidth kinds + length (kidsCountWords kids 0)) = omega arith in
-            rw (items-scanned kinds 1 (omega arith), and-pass, c .1, e, finish-scanned (5 - suc (kindsWidth kinds + length (kidsCountWords kids 0))) (suc (kindsWidth kinds + length (kidsCountWords kids 0))) (g t (forgetItems (itemsOf store rows i 1 kinds))) (omega arith), and-pass, and-pass, c .2 r)
+            rw (items-scanned kinds 1 (omega arith), and-pass, c .1, e, finish-scanned (rowWidth - suc (kindsWidth kinds + length (kidsCountWords kids 0))) (suc (kindsWidth kinds + length (kidsCountWords kids 0))) (g t (forgetItems (itemsOf store rows i 1 kinds))) (omega arith), and-pass, and-pass, c .2 r)
 
-        shape-scanned : (sh : Shape) → suc (kindsWidth (kindsOf sh) + length (countWords sh 0)) ≤ 5
+        shape-scanned : (sh : Shape) → suc (kindsWidth (kindsOf sh) + length (countWords sh 0)) ≤ rowWidth
             → scanShape store r g t sh (atWord rows i 1) ≡ headed sh (g t (forgetItems (itemsOf store rows i 1 (kindsOf sh)))) (withUnder r t sh)
         unfolding scanShape scanUnder kindsOf countWords unusedWords _>>=_ _>>_ andThen
         shape-scanned (withKids kinds kids) h = with-kids-scanned kinds kids h
         shape-scanned (withChunk kinds) h =
             let e : 1 + kindsWidth kinds ≡ suc (kindsWidth kinds + 0) = omega arith in
-            rw (items-scanned kinds 1 (omega arith), and-pass, e, finish-scanned (5 - suc (kindsWidth kinds + 0)) (suc (kindsWidth kinds + 0)) (g t (forgetItems (itemsOf store rows i 1 kinds))) (omega arith), and-pass, and-pass)
+            rw (items-scanned kinds 1 (omega arith), and-pass, e, finish-scanned (rowWidth - suc (kindsWidth kinds + 0)) (suc (kindsWidth kinds + 0)) (g t (forgetItems (itemsOf store rows i 1 kinds))) (omega arith), and-pass, and-pass)
         shape-scanned (withFields kinds) h =
             let e : 1 + kindsWidth kinds + 1 ≡ suc (kindsWidth kinds + 1) = omega arith in
-            rw (items-scanned kinds 1 (omega arith), and-pass, next-word i (1 + kindsWidth kinds) (omega arith), e, finish-scanned (5 - suc (kindsWidth kinds + 1)) (suc (kindsWidth kinds + 1)) (g t (forgetItems (itemsOf store rows i 1 kinds))) (omega arith), and-pass, and-pass)
+            rw (items-scanned kinds 1 (omega arith), and-pass, next-word i (1 + kindsWidth kinds) (omega arith), e, finish-scanned (rowWidth - suc (kindsWidth kinds + 1)) (suc (kindsWidth kinds + 1)) (g t (forgetItems (itemsOf store rows i 1 kinds))) (omega arith), and-pass, and-pass)
         shape-scanned (withTemplate kinds) h =
             let e : 1 + kindsWidth kinds + 1 ≡ suc (kindsWidth kinds + 1) = omega arith in
-            rw (items-scanned kinds 1 (omega arith), and-pass, next-word i (1 + kindsWidth kinds) (omega arith), e, finish-scanned (5 - suc (kindsWidth kinds + 1)) (suc (kindsWidth kinds + 1)) (g t (forgetItems (itemsOf store rows i 1 kinds))) (omega arith), and-pass, and-pass, made-twice (r isFunction (atRow rows (i + 1))) (readMany (wordAt rows i (1 + kindsWidth kinds)) (r anyRow)) cons (λ ts. nodeOf t (itemsOf store rows i 1 kinds) ts))
+            rw (items-scanned kinds 1 (omega arith), and-pass, next-word i (1 + kindsWidth kinds) (omega arith), e, finish-scanned (rowWidth - suc (kindsWidth kinds + 1)) (suc (kindsWidth kinds + 1)) (g t (forgetItems (itemsOf store rows i 1 kinds))) (omega arith), and-pass, and-pass, made-twice (r isFunction (atRow rows (i + 1))) (readMany (wordAt rows i (1 + kindsWidth kinds)) (r anyRow)) cons (λ ts. nodeOf t (itemsOf store rows i 1 kinds) ts))
 
 ---- whole rows
 
-used-low : (t : ℕ) → usedWords t ≤ 5
+used-low : (t : ℕ) → usedWords t ≤ rowWidth
 unfolding usedWords
-used-low t = leb-true _ _ (shape-all (λ t sh. leb (suc (kindsWidth (kindsOf sh) + length (countWords sh 0))) 5) (unfold allFrom shapes kindsWidth kindWidth kindsOf countWords kidsCountWords _and_ in refl)
+used-low t = leb-true _ _ (shape-all (λ t sh. leb (suc (kindsWidth (kindsOf sh) + length (countWords sh 0))) rowWidth) (unfold allFrom shapes kindsWidth kindWidth kindsOf countWords kidsCountWords _and_ in refl)
     (unfold kindsWidth kindWidth kindsOf countWords kidsCountWords in refl) (unfold kindsWidth kindWidth kindsOf countWords kidsCountWords in refl) (λ t h. unfold kindsWidth kindsOf countWords kidsCountWords in refl) t)
 
 module _ (store rows : List ℕ) where
@@ -145,7 +145,7 @@ module _ (store rows : List ℕ) where
         ≡ pass (leb (tagAt rows i) 26) i (pass (rowFits store rows i) i (pass (g (tagAt rows i) (forgetItems (itemsAt store rows i))) i (rowWith (scanValue store d) i)))
     unfolding scanValue rowFits rowWith usedWords countWord unusedWords _>>=_ _>>_ andThen
     value-scanned d g =
-        let l : suc (kindsWidth (kindsOf (shape (tagAt rows i))) + length (countWords (shape (tagAt rows i)) 0)) ≤ 5 = used-low (tagAt rows i) in
+        let l : suc (kindsWidth (kindsOf (shape (tagAt rows i))) + length (countWords (shape (tagAt rows i)) 0)) ≤ rowWidth = used-low (tagAt rows i) in
         rw (row-start rows i, next-word rows i 0 (omega arith), must-pass, and-pass, shape-scanned rows i u store (scanValue store d) g (tagAt rows i) (shape (tagAt rows i)) l, pass-and)
 
     with-kids-row : (r : RowScan) (kinds : List ItemKind) (kids : Kids) → shape (tagAt rows i) ≡ withKids kinds kids

@@ -4,6 +4,7 @@ use Prim.Native.Nat.{min, ℕ, _*_, _/_}
 use lib.ListN.{length}
 use borrow.Author.Needs.{needs}
 use borrow.Author.Tests.{eq-eqb, ne-eqb}
+use Rattle.payload.specs.Rows.{rowWidth}
 use Rattle.payload.specs.Choice.{if_then_else_}
 use Rattle.row_layout.specs.Layout.{underForm, countWord}
 use Rattle.write_rows.specs.Walk.{rowWord, rowsUnder}
@@ -41,7 +42,7 @@ returns-3 c =
     )
     (ap (λ (n : ℕ). 2 * n)
     (c .before .cut .ensures
-    ∙ ap (λ (w : ℕ). min w (length (args .rows .now) / 5))
+    ∙ ap (λ (w : ℕ). min w (length (args .rows .now) / rowWidth))
     (c .before .before .word-at2 .ensures
     ∙ ap (rowWord (args .rows .now) (args .i)) (c .before .before .before .count-word .ensures ∙ ap countWord (word-at .ensures)))))
 
@@ -60,7 +61,7 @@ returns-4 c =
       ne-eqb (under-form .result) 3 (c .if3 .left),
     )
     (c .before .cut .ensures
-    ∙ ap (λ (w : ℕ). min w (length (args .rows .now) / 5))
+    ∙ ap (λ (w : ℕ). min w (length (args .rows .now) / rowWidth))
     (c .before .before .word-at2 .ensures
     ∙ ap (rowWord (args .rows .now) (args .i)) (c .before .before .before .count-word .ensures ∙ ap countWord (word-at .ensures))))
 

@@ -18,7 +18,7 @@ use Rattle.payload.specs.Laws.Rules.{Root, roots, sameKinds, distinctPairs, kid
 use Rattle.payload.specs.Laws.ScanWritten.{InItems, InTrees, count-roots}
 use Rattle.payload.specs.Laws.SoundTables.{row-width}
 use Rattle.payload.specs.Reader.{Part}
-use Rattle.payload.specs.Rows.{itemsWords, kindsWidth, kidsCountWords, countWords, unusedWords, rowWords, itemsSpans, rootCount, rowTable, spanTable}
+use Rattle.payload.specs.Rows.{itemsWords, kindsWidth, kidsCountWords, countWords, unusedWords, rowWords, itemsSpans, rootCount, rowTable, rowWidth, spanTable}
 use Rattle.payload.specs.Shapes.{ItemKind, noValue, oneValue, values, keys, pairs, Shape, withKids, withChunk, withFields, withTemplate, shape, kindsOf}
 use Rattle.payload.specs.Spans.{Span}
 use Rattle.payload.specs.Tables.{spanWords}
@@ -104,11 +104,11 @@ module _ (s : List ℕ) (l : List (List ℕ)) (R S : List ℕ) where
   abbrev u : ℕ
   u = rowCount R
 
-  module _ (t : ℕ) (is : List (Item Part)) (n i : ℕ) (rest : List ℕ) (here : drop (5 * i) R ≡ rowWords t is n ++ rest) (kinds : sameKinds (kindsOf (shape t)) (forgetItems is) ≡ true)
+  module _ (t : ℕ) (is : List (Item Part)) (n i : ℕ) (rest : List ℕ) (here : drop (rowWidth * i) R ≡ rowWords t is n ++ rest) (kinds : sameKinds (kindsOf (shape t)) (forgetItems is) ≡ true)
       (ins : InItems s is) (all : allOf itemSound (forgetItems is) ≡ true) where
-    word-is : (k : ℕ) → k < 5 → rowWord R i k ≡ getD (rowWords t is n ++ rest) k 0
+    word-is : (k : ℕ) → k < rowWidth → rowWord R i k ≡ getD (rowWords t is n ++ rest) k 0
     unfolding rowWord if_then_else_
-    word-is k h = rw (lt-ltb k 5 h) (sym (getD-drop (5 * i) R k 0) ∙ ap (λ (v : List ℕ). getD v k 0) here)
+    word-is k h = rw (lt-ltb k rowWidth h) (sym (getD-drop (rowWidth * i) R k 0) ∙ ap (λ (v : List ℕ). getD v k 0) here)
 
     tag-is : rowWord R i 0 ≡ t
     unfolding rowWords
@@ -250,7 +250,7 @@ module _ (s : List ℕ) (l : List (List ℕ)) (R S : List ℕ) where
     unfolding kindsOf
     no-spans-here = no-spans kn is no-codes (ap (λ (x : Shape). sameKinds (kindsOf x) (forgetItems is)) (sym e) ∙ q) .0
 
-    closure-row : (ks : Trees Part) (here : drop (5 * i) R ≡ rowWords t is (rootCount ks) ++ rest) → size ks ≤ u → rowRule (withTemplate kn) (forgetItems is) (roots (forgetTrees ks)) ≡ true → WalkIs d ks (i + 1) (j + spanItems (forgetItems is))
+    closure-row : (ks : Trees Part) (here : drop (rowWidth * i) R ≡ rowWords t is (rootCount ks) ++ rest) → size ks ≤ u → rowRule (withTemplate kn) (forgetItems is) (roots (forgetTrees ks)) ≡ true → WalkIs d ks (i + 1) (j + spanItems (forgetItems is))
         → walkRow H (walk H d) i j ≡ walked (first-bytes t is ks) (i + 1 + size ks) (j + spanItems (forgetItems is) + spanCount (forgetTrees ks))
     unfolding rowRule roots forgetTrees Parts rootCount size spanCount writeTrees countWords writeRow shapeForm if_then_else_
     closure-row nil here small r w = false≢true r
@@ -268,7 +268,7 @@ module _ (s : List ℕ) (l : List (List ℕ)) (R S : List ℕ) where
         ∙ ap (λ (n : ℕ). walked (tagByte t ++ (first-bytes ft fi fk ++ (writeItems l (forgetItems is) ++ (uleb128 n ++ concat (writeTrees l (forgetTrees ks)))))) (i + 1 + (suc (size fk) + size ks)) (j + m + ((spanItems (forgetItems fi) + spanCount (forgetTrees fk)) + spanCount (forgetTrees ks)))) (sym (length-written l ks))
         ∙ ap (λ (x : Shape). walked (tagByte t ++ writeRow (writeItems l (forgetItems is)) x (first-bytes ft fi fk ∷ writeTrees l (forgetTrees ks))) (i + 1 + (suc (size fk) + size ks)) (j + m + ((spanItems (forgetItems fi) + spanCount (forgetTrees fk)) + spanCount (forgetTrees ks)))) (sym e)
 
-  module _ (d t : ℕ) (is : List (Item Part)) (ks : Trees Part) (i j : ℕ) (rest : List ℕ) (here : drop (5 * i) R ≡ rowWords t is (rootCount ks) ++ rest) (ins : InItems s is) (all : allOf itemSound (forgetItems is) ≡ true)
+  module _ (d t : ℕ) (is : List (Item Part)) (ks : Trees Part) (i j : ℕ) (rest : List ℕ) (here : drop (rowWidth * i) R ≡ rowWords t is (rootCount ks) ++ rest) (ins : InItems s is) (all : allOf itemSound (forgetItems is) ≡ true)
       (more : List Span) (rest′ : List ℕ) (there : drop (2 * j) S ≡ spanWords (itemsSpans is ++ more) ++ rest′) (room : j ≤ length S / 2) (small : size ks ≤ u) where
     abbrev i₁ : ℕ
     i₁ = i + 1 + size ks
@@ -325,7 +325,7 @@ module _ (s : List ℕ) (l : List (List ℕ)) (R S : List ℕ) where
         row-counted t is (rootCount ks) i rest here q ins all j more rest′ there room (walk H d) es i₁ j₁ 2 (rootCount ks) (rootCount ks) v refl refl cnt (beneath-is t is (rootCount ks) i rest here q ins all j more rest′ there room (walk H d) es i₁ j₁ 2 v ∙ ap (λ (k : ℕ). min k u) cnt ∙ least) (w .whole) (ap (λ (x : Shape). writeRow (writeItems l (forgetItems is)) x es) e ∙ ap (λ (n : ℕ). writeItems l (forgetItems is) ++ (uleb128 n ++ concat es)) (length-written l ks))
     one-row (withTemplate kn) e q r w = closed kn e q r w
 
-  length-rows : (ts : Trees Part) → ruled ts ≡ true → length (rowTable ts) ≡ 5 * size ts
+  length-rows : (ts : Trees Part) → ruled ts ≡ true → length (rowTable ts) ≡ rowWidth * size ts
   unfolding ruled rowTable size
   length-rows nil h = refl
   length-rows (node t is ks ts) h =
@@ -355,7 +355,7 @@ module _ (s : List ℕ) (l : List (List ℕ)) (R S : List ℕ) where
   unfolding walk walkTimes walkNext andWalk if_then_else_
   walk-more d n i j b c i₁ j₁ i₂ j₂ h e g = rw (lt-ltb i u h) (ap (λ (w : Walked). andWalk w (walkTimes (walkNext H (walk H d)) n)) e ∙ ap (λ (w : Walked). walked (b ++ w .bytes) (w .row) (w .span)) g)
 
-  pub walks : (d : ℕ) (ts : Trees Part) (i j : ℕ) (rest rest′ : List ℕ) → drop (5 * i) R ≡ rowTable ts ++ rest → drop (2 * j) S ≡ spanWords (spanTable ts) ++ rest′ → j ≤ length S / 2 → i + size ts ≤ u → tall ts ≤ d
+  pub walks : (d : ℕ) (ts : Trees Part) (i j : ℕ) (rest rest′ : List ℕ) → drop (rowWidth * i) R ≡ rowTable ts ++ rest → drop (2 * j) S ≡ spanWords (spanTable ts) ++ rest′ → j ≤ length S / 2 → i + size ts ≤ u → tall ts ≤ d
       → ruled ts ≡ true → InTrees s ts → allItems itemSound (forgetTrees ts) ≡ true → WalkIs d ts i j
   unfolding rowTable spanTable size tall ruled InTrees allItems forgetTrees rootCount writeTrees concat spanCount Parts
   walks d nil i j rest rest′ eR eS room fits deep h ins a = record {
@@ -371,12 +371,12 @@ module _ (s : List ℕ) (l : List (List ℕ)) (R S : List ℕ) where
       let at : allItems itemSound (forgetTrees ts) ≡ true = and-right _ _ (and-right _ _ a) in
       let ai : allOf itemSound (forgetItems is) ≡ true = and-left _ _ a in
       let m = spanItems (forgetItems is) in
-      let here : drop (5 * i) R ≡ rowWords t is (rootCount ks) ++ (rowTable ks ++ (rowTable ts ++ rest)) = eR ∙ append-assoc (rowWords t is (rootCount ks) ++ rowTable ks) (rowTable ts) rest ∙ append-assoc (rowWords t is (rootCount ks)) (rowTable ks) (rowTable ts ++ rest) in
-      let e5 : 5 * (i + 1) ≡ 5 * i + 5 = omega arith in
-      let rows₁ : drop (5 * (i + 1)) R ≡ rowTable ks ++ (rowTable ts ++ rest) = ap (λ (k : ℕ). drop k R) e5 ∙ sym (drop-drop 5 (5 * i) R) ∙ ap (drop 5) here ∙ drop-at (rowWords t is (rootCount ks)) (rowTable ks ++ (rowTable ts ++ rest)) 5 (row-width t is (rootCount ks) kinds) in
+      let here : drop (rowWidth * i) R ≡ rowWords t is (rootCount ks) ++ (rowTable ks ++ (rowTable ts ++ rest)) = eR ∙ append-assoc (rowWords t is (rootCount ks) ++ rowTable ks) (rowTable ts) rest ∙ append-assoc (rowWords t is (rootCount ks)) (rowTable ks) (rowTable ts ++ rest) in
+      let e₁ : rowWidth * (i + 1) ≡ rowWidth * i + rowWidth = omega arith in
+      let rows₁ : drop (rowWidth * (i + 1)) R ≡ rowTable ks ++ (rowTable ts ++ rest) = ap (λ (k : ℕ). drop k R) e₁ ∙ sym (drop-drop rowWidth (rowWidth * i) R) ∙ ap (drop rowWidth) here ∙ drop-at (rowWords t is (rootCount ks)) (rowTable ks ++ (rowTable ts ++ rest)) 5 (row-width t is (rootCount ks) kinds) in
       let lk = length-rows ks hk in
-      let e₂ : 5 * (i + 1 + size ks) ≡ 5 * (i + 1) + 5 * size ks = omega arith in
-      let rows₂ : drop (5 * (i + 1 + size ks)) R ≡ rowTable ts ++ rest = ap (λ (k : ℕ). drop k R) e₂ ∙ sym (drop-drop (5 * size ks) (5 * (i + 1)) R) ∙ ap (drop (5 * size ks)) rows₁ ∙ drop-at (rowTable ks) (rowTable ts ++ rest) (5 * size ks) lk in
+      let e₂ : rowWidth * (i + 1 + size ks) ≡ rowWidth * (i + 1) + rowWidth * size ks = omega arith in
+      let rows₂ : drop (rowWidth * (i + 1 + size ks)) R ≡ rowTable ts ++ rest = ap (λ (k : ℕ). drop k R) e₂ ∙ sym (drop-drop (rowWidth * size ks) (rowWidth * (i + 1)) R) ∙ ap (drop (rowWidth * size ks)) rows₁ ∙ drop-at (rowTable ks) (rowTable ts ++ rest) (rowWidth * size ks) lk in
       let more = spanTable ks ++ spanTable ts in
       let sp = spans-next t is (rootCount ks) i (rowTable ks ++ (rowTable ts ++ rest)) here kinds (ins .0) ai j more rest′ eS room in
       let sr = span-room t is (rootCount ks) i (rowTable ks ++ (rowTable ts ++ rest)) here kinds (ins .0) ai j more rest′ eS room in
