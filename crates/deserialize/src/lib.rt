@@ -63,19 +63,19 @@ fn read_script(
             limits.starts,
             state.at,
         ) {
-            LinesAt::Lines(flag, name_o, name_n, count, next) => {
+            LinesAt::Lines(lines) => {
                 slices::zero_u64_from(rows, Program::ROW_WIDTH * state.rows);
                 slices::zero_u64_from(spans, 2 * state.spans);
-                slices::zero_u32_from(starts, count);
+                slices::zero_u32_from(starts, lines.starts);
                 Read::Accepted(Counts {
-                    consumed: next,
+                    consumed: lines.next,
                     rows: state.rows,
                     spans: state.spans,
-                    starts: count,
+                    starts: lines.starts,
                     strings: pool.len() / 2,
-                    flag: flag,
-                    name_o: name_o,
-                    name_n: name_n,
+                    flag: lines.flag,
+                    name_o: lines.name_o,
+                    name_n: lines.name_n,
                 })
             }
             LinesAt::Refused(n, q) => {
