@@ -7,7 +7,7 @@ use lib.ListN.{drop, getD, length, take}
 use Rattle.slices.specs.Same.{same}
 use Rattle.payload.specs.Rows.{rowWidth}
 use Rattle.payload.specs.Shapes.{isKeyTag, shape}
-use Rattle.read_items.specs.Heads.{countIn, rowsUnder}
+use Rattle.read_heads.specs.Heads.{countIn, rowsUnder}
 
 -- a row's words stand at the front of the list
 abbrev pub tagOf : List ℕ → ℕ

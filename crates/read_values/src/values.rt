@@ -13,9 +13,8 @@ use crate::Step;
 use crate::keys;
 use crate::rows;
 use read_code::CodeAt;
-use read_items::Head;
+use read_heads::Head;
 use read_items::Number;
-use read_items::heads;
 use read_items::items;
 
 // A value, with `left` levels left.
@@ -65,8 +64,15 @@ pub fn read_value(
             },
         );
     }
-    match heads::read_head(heads::class_of(tag), bytes, names, pool, at + 1) {
-        Head::Row(a, b, c, d, count, next) => {
+    match read_heads::read_head(read_heads::class_of(tag), bytes, names, pool, at + 1) {
+        Head::Row {
+            a,
+            b,
+            c,
+            d,
+            count,
+            next,
+        } => {
             rows::write_row(rows, state.rows, tag, a, b, c, d);
             let after = State {
                 at: next,
@@ -208,8 +214,15 @@ fn read_field(
     if limits.rows <= state.rows {
         return Step::Refused(22, state.at);
     }
-    match heads::read_field_head(bytes, pool, state.at) {
-        Head::Row(a, b, c, d, count, next) => {
+    match read_heads::read_field_head(bytes, pool, state.at) {
+        Head::Row {
+            a,
+            b,
+            c,
+            d,
+            count,
+            next,
+        } => {
             rows::write_row(rows, state.rows, 33, a, b, c, d);
             read_values(
                 left,
@@ -253,8 +266,15 @@ fn read_closure(
             if rows[rows::ROW_WIDTH * state.rows] != 7 {
                 return Step::Refused(11, state.at);
             }
-            match heads::read_closure_head(bytes, mid.at) {
-                Head::Row(a, b, c, d, count, next) => {
+            match read_heads::read_closure_head(bytes, mid.at) {
+                Head::Row {
+                    a,
+                    b,
+                    c,
+                    d,
+                    count,
+                    next,
+                } => {
                     rows::write_row(rows, own, 18, a, b, c, d);
                     read_values(
                         left,
