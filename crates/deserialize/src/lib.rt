@@ -53,7 +53,8 @@ fn read_script(
     requires { ⌜ Fit limits (now bytes) (now rows) (now spans) (record { at = at; rows = 0; spans = 0 }) ⌝ }
     requires { ⌜ limits .starts ≤ length (now starts) ⌝ }
     requires { ⌜ (length (now pool) ≡ 2 * (length (now pool) / 2)) × PoolFits (now bytes) (now pool) ⌝ }
-    ensures { λ r. ⌜ ScriptLeaves (readScript (context limits (now (bytes .entry)) (now (names .entry)) (now (pool .entry))) (stateAt (now (bytes .entry)) at 0 0)) (now (pool .entry)) (now (rows .entry)) (now (spans .entry)) (now (starts .entry)) (now (rows .exit)) (now (spans .exit)) (now (starts .exit)) r ⌝ }
+    ensures { λ r. ⌜ ScriptLeaves (readScript (context limits (now (bytes .entry)) (now (names .entry)) (now (pool .entry))) (stateAt (now (bytes .entry)) at 0 0))
+        (now (pool .entry)) (now (rows .entry)) (now (spans .entry)) (now (starts .entry)) (now (rows .exit)) (now (spans .exit)) (now (starts .exit)) r ⌝ }
 {
     match read_values::read_outer(bytes, names, pool, rows, spans, limits, at) {
         Step::Done(state) => match read_lines::read_line_index(
@@ -100,7 +101,9 @@ pub fn deserialize_payload(
     starts: &mut [u32],
     pool: &mut [u64],
 ) -> Read
-    ensures { λ r. ⌜ Leaves (reading (capacitiesOf (length (now (rows .entry))) (length (now (spans .entry))) (length (now (starts .entry))) (length (now (pool .entry)))) (now (names .entry)) (now (bytes .entry))) (now (rows .entry)) (now (spans .entry)) (now (starts .entry)) (now (pool .entry)) (now (rows .exit)) (now (spans .exit)) (now (starts .exit)) (now (pool .exit)) r ⌝ }
+    ensures { λ r. ⌜ Leaves (reading (capacitiesOf (length (now (rows .entry))) (length (now (spans .entry))) (length (now (starts .entry))) (length (now (pool .entry))))
+        (now (names .entry)) (now (bytes .entry)))
+        (now (rows .entry)) (now (spans .entry)) (now (starts .entry)) (now (pool .entry)) (now (rows .exit)) (now (spans .exit)) (now (starts .exit)) (now (pool .exit)) r ⌝ }
 {
     if Program::SIZE < bytes.len() {
         clear_script(rows, spans, starts);
