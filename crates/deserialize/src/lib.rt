@@ -74,7 +74,7 @@ fn read_script(
             }
         },
         Step::Refused(n, q) => {
-            clear_script(rows, spans, starts);
+            slices::zero_u32_from(starts, 0);
             Read::Refused(n, q)
         }
     }

@@ -62,12 +62,13 @@ returns-2 c =
 
 returns-3 : tie.Need-returns-3
 returns-3 c =
-    let at-n2 = c .before .before .before .before .before .before .before .before .before .before .before in
-    let read-outer = at-n2 .before .before .before .before .before .before .read-outer in
-    let cleared = c .before .before .before .before .before .before .clear-script .ensures in
-    let kept = read-outer .kept .1 .1 .1 in
-    refused-leaves (script-no-chunk _ _ (no-of (at-n2 .n2 .given .1) (read-outer .ensures .did))) (cleared .0 ∙ ap zeros (kept .0))
-    (cleared .1 .0 ∙ ap zeros (kept .1 .0)) (cleared .1 .1)
+    let at-n2 = c .before .before .before .before .before in
+    let at-read-outer = at-n2 .before .before .before .before .before .before in
+    let read-outer = at-read-outer .read-outer in
+    let args = at-read-outer .before .before .before .before .before .before .before .before .before .args in
+    let cleared = rw (at-n2 .n2 .given .1) at (read-outer .ensures .cleared) in
+    refused-leaves (script-no-chunk _ _ (no-of (at-n2 .n2 .given .1) (read-outer .ensures .did))) (cleared .0) (cleared .1)
+    (c .before .before .zero-u32-from2 .ensures ∙ zeroFrom-zero (args .starts .now))
 
 pub read-script-spec : {M : Type 1} → statement M
 read-script-spec =
