@@ -19,6 +19,7 @@ use Rattle.read_items.specs.Context.{PoolFits, contextOf}
 use Rattle.read_items.specs.Laws.Context.{length-partsOf, partsWords-partsOf}
 use Rattle.read_items.specs.Reads.{stateAt, stopped}
 use Rattle.read_lines.specs.LinesRead.{Accepted, InContext}
+use Rattle.read_lines.specs.declared.LineIndexAt.{LineIndexAt}
 use Rattle.read_values.specs.Did.{Fit, Ran, context, oneTree, rowsIn, spansIn}
 use Rattle.payload.specs.declared.Capacities.{Capacities}
 use Rattle.read_values.specs.declared.State.{State}
@@ -74,12 +75,21 @@ module _ (names : List ℕ) {limits : Capacities} {p pool rows rows₁ spans spa
   module _ (fit : Fit limits p rows spans (record { at = at; rows = 0; spans = 0 }))
       (whole : length pool ≡ 2 * (length pool / 2)) (inside : PoolFits p pool) where
     pub accepted-leaves :
-        {starts starts₁ rows′ spans′ starts′ : List ℕ} {flag o n k next : ℕ} → limits .starts ≤ length starts →
-        Accepted p pool starts starts₁ (limits .starts) (s .at) readLineIndex flag o n k next →
-        rows′ ≡ zeroFrom (rowWidth * s .rows) rows₁ → spans′ ≡ zeroFrom (2 * s .spans) spans₁ → starts′ ≡ zeroFrom k starts₁ →
+        {starts starts₁ rows′ spans′ starts′ : List ℕ} {l : LineIndexAt} → limits .starts ≤ length starts →
+        Accepted p pool starts starts₁ (limits .starts) (s .at) readLineIndex l →
+        rows′ ≡ zeroFrom (rowWidth * s .rows) rows₁ → spans′ ≡ zeroFrom (2 * s .spans) spans₁ → starts′ ≡ zeroFrom (l .starts) starts₁ →
         ScriptLeaves (readScript (context limits p names pool) (stateAt p at 0 0)) pool rows spans starts rows′ spans′ starts′
         (read.Accepted
-        (record { consumed = next; rows = s .rows; spans = s .spans; starts = k; strings = length pool / 2; flag = flag; «name_o» = o; «name_n» = n }))
+        (record {
+          consumed = l .next;
+          rows = s .rows;
+          spans = s .spans;
+          starts = l .starts;
+          strings = length pool / 2;
+          flag = l .flag;
+          «name_o» = l .«name_o»;
+          «name_n» = l .«name_n»;
+        }))
     unfolding contextOf readAnswer usedRows usedSpans usedStarts usedPool
     accepted-leaves {starts} room g a b c =
         rw (script-ok (context limits p names pool) (stateAt p at 0 0) (ran .is) (g .is .reads limits names refl .is (s .rows) (s .spans)))

@@ -10,6 +10,7 @@ use Rattle.payload.specs.Choice.{if_then_else_}
 use Rattle.payload.specs.Reader.{Result, andThen, refused, start, _>>=_}
 use Rattle.payload.specs.Reading.{Payload, readPayload, readPool}
 use Rattle.payload.specs.declared.Capacities.{Capacities}
+use Rattle.payload.specs.Tables as tables
 use Rattle.payload.specs.Tables.{Leaves, capacitiesOf, partsWords, reading, sizeLimit, usedPool}
 use Rattle.payload.specs.declared.Read.{Read}
 use Rattle.payload.specs.declared.Read.the-variants as read
@@ -30,7 +31,7 @@ module _ {limits : Capacities} (rows spans starts pool : ℕ) (e : limits ≡ ca
   unfolding capacitiesOf
   strings-fit = omega (arith, ap (λ (c : Capacities). c .strings) e)
 
-  pub strings-few : limits .strings ≤ 1048576
+  pub strings-few : limits .strings ≤ tables.limits .strings
   unfolding capacitiesOf
   strings-few = omega (arith, ap (λ (c : Capacities). c .strings) e)
 

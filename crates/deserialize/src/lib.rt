@@ -41,7 +41,8 @@ fn read_script(
     requires { ⌜ Fit limits (now bytes) (now rows) (now spans) (record { at = at; rows = 0; spans = 0 }) ⌝ }
     requires { ⌜ limits .starts ≤ length (now starts) ⌝ }
     requires { ⌜ (length (now pool) ≡ 2 * (length (now pool) / 2)) × PoolFits (now bytes) (now pool) ⌝ }
-    ensures { λ r. ⌜ ScriptLeaves (readScript (context limits (now (bytes .entry)) (now (names .entry)) (now (pool .entry))) (stateAt (now (bytes .entry)) at 0 0)) (now (pool .entry)) (now (rows .entry)) (now (spans .entry)) (now (starts .entry)) (now (rows .exit)) (now (spans .exit)) (now (starts .exit)) r ⌝ }
+    ensures { λ r. ⌜ ScriptLeaves (readScript (context limits (now (bytes .entry)) (now (names .entry)) (now (pool .entry))) (stateAt (now (bytes .entry)) at 0 0))
+        (now (pool .entry)) (now (rows .entry)) (now (spans .entry)) (now (starts .entry)) (now (rows .exit)) (now (spans .exit)) (now (starts .exit)) r ⌝ }
 {
     match read_values::read_outer(bytes, names, pool, rows, spans, limits, at) {
         Step::Done(state) => match read_lines::read_line_index(
@@ -51,19 +52,19 @@ fn read_script(
             limits.starts,
             state.at,
         ) {
-            LinesAt::Lines(flag, name_o, name_n, count, next) => {
+            LinesAt::Lines(lines) => {
                 slices::zero_u64_from(rows, Program::ROW_WIDTH * state.rows);
                 slices::zero_u64_from(spans, 2 * state.spans);
-                slices::zero_u32_from(starts, count);
+                slices::zero_u32_from(starts, lines.starts);
                 Read::Accepted(Counts {
-                    consumed: next,
+                    consumed: lines.next,
                     rows: state.rows,
                     spans: state.spans,
-                    starts: count,
+                    starts: lines.starts,
                     strings: pool.len() / 2,
-                    flag: flag,
-                    name_o: name_o,
-                    name_n: name_n,
+                    flag: lines.flag,
+                    name_o: lines.name_o,
+                    name_n: lines.name_n,
                 })
             }
             LinesAt::Refused(n, q) => {
@@ -73,7 +74,7 @@ fn read_script(
             }
         },
         Step::Refused(n, q) => {
-            clear_script(rows, spans, starts);
+            slices::zero_u32_from(starts, 0);
             Read::Refused(n, q)
         }
     }
@@ -88,7 +89,9 @@ pub fn deserialize_payload(
     starts: &mut [u32],
     pool: &mut [u64],
 ) -> Read
-    ensures { λ r. ⌜ Leaves (reading (capacitiesOf (length (now (rows .entry))) (length (now (spans .entry))) (length (now (starts .entry))) (length (now (pool .entry)))) (now (names .entry)) (now (bytes .entry))) (now (rows .entry)) (now (spans .entry)) (now (starts .entry)) (now (pool .entry)) (now (rows .exit)) (now (spans .exit)) (now (starts .exit)) (now (pool .exit)) r ⌝ }
+    ensures { λ r. ⌜ Leaves (reading (capacitiesOf (length (now (rows .entry))) (length (now (spans .entry))) (length (now (starts .entry))) (length (now (pool .entry))))
+        (now (names .entry)) (now (bytes .entry)))
+        (now (rows .entry)) (now (spans .entry)) (now (starts .entry)) (now (pool .entry)) (now (rows .exit)) (now (spans .exit)) (now (starts .exit)) (now (pool .exit)) r ⌝ }
 {
     if Program::SIZE < bytes.len() {
         clear_script(rows, spans, starts);

@@ -10,7 +10,7 @@ use borrow.Author.Tests.{eq-eqb, ne-eqb}
 use Rattle.payload.specs.Choice.{if_then_else_}
 use Rattle.payload.specs.Rows.{kindsWidth}
 use Rattle.payload.specs.Shapes.{Shape, noValue, oneValue, values, keys, pairs, withKids, withChunk, withFields, withTemplate, kindsOf, shape}
-use Rattle.read_items.specs.Heads.{countIn, rowsUnder}
+use Rattle.read_heads.specs.Heads.{countIn, rowsUnder}
 use Rattle.row_layout.specs.Layout.{countWord, kidsForm, shapeForm, underForm}
 use Rattle.row_layout.specs.Laws.Layout.{count-word-low}
 use Rattle.key_test.specs.Keys.{mostRows, rowsTold, tagOf}

@@ -1,4 +1,3 @@
-pub mod Found
 pub mod Short
 pub mod SpanTable
 pub mod Runs

@@ -1,5 +1,5 @@
 -- Runs read one after another: whatever the rest of the reading answers from here, with the runs so far in front, all of it answers from the start.
-use mathlib.Core.List.{List, [], _∷_, _++_, append-assoc, append-nil}
+use mathlib.Core.List.{List, [], _∷_, _++_}
 use mathlib.Core.Path.{_≡_, refl, sym, _∙_}
 use Prim.Native.Nat.{ℕ, suc, _+_, _*_, _-_, _≤_, _<_}
 use native.Mathlib.Omega.{arith}
@@ -10,12 +10,13 @@ use Rattle.slices.specs.Put.{put}
 use Rattle.slices.specs.Laws.Put.{put-none}
 use Rattle.varint.specs.Signed.{wordOf}
 use Rattle.payload.specs.Numbers.{varint}
-use Rattle.payload.specs.Reader.{Part, _>>=_, pure}
+use Rattle.payload.specs.Reader.{Part, Reader, _>>=_}
 use Rattle.payload.specs.Spans.{Run, expand, total, readPosition, readRuns}
 use Rattle.payload.specs.Tables.{spanWords}
 use Rattle.read_items.specs.Reads.{Answer, read, stopped, Reads}
+use Rattle.read_items.specs.Laws.Sofar.{after, Sofar, in-front, sofar-none, sofar-more, sofar-stop, sofar-all}
 use Rattle.read_items.specs.Laws.Reads.{reads-pure, reads-then, reads-stop, reads-here, reads-must-not}
-use Rattle.read_code.specs.Runs.{spanOf, runOf, after, RunRead, counted, Stored, refusalOf, Refuses}
+use Rattle.read_code.specs.Runs.{spanOf, runOf, RunRead, counted, Stored, refusalOf, Refuses}
 use Rattle.read_code.specs.Laws.Spans.{total-append}
 use Rattle.read_code.specs.declared.Refusal.{Refusal}
 use Rattle.read_code.specs.declared.RunAt.{RunAt}
@@ -29,13 +30,7 @@ module _ {p : List ℕ} {at : ℕ} {s e : ℤ} where
     module _ {e′ : ℤ} {last : ℕ} (h : Reads p mid (readPosition e) (read e′ last)) where
       pub run-read : {count next : ℕ} {a b : ℤ} → Reads p last varint (read count next) → a ≡ s′ → b ≡ e′ → RunRead p s e at (run-at.Run a b count next)
       unfolding readRuns
-      run-read {count} {next} k u v = rw (u, v) (record { outcome = (k .inside, λ n x y. reads-then _ g (reads-then _ h (reads-then _ k (in-front n x y)))) })
-        where
-          in-front :
-              (n : ℕ) (x : Answer (List Run)) → Reads p next (readRuns n s′ e′) x →
-              Reads p next (readRuns n s′ e′ >>= λ rs. pure (runOf s′ e′ count ∷ rs)) (after (runOf s′ e′ count ∷ []) x)
-          in-front n (read rs q) y = reads-then _ y (reads-pure _ (y .inside))
-          in-front n (stopped m q) y = reads-stop _ y
+      run-read k u v = rw (u, v) (record { outcome = (k .inside, λ n x y. reads-then _ g (reads-then _ h (reads-then _ k (in-front _ x y)))) })
 
       pub count-refused : {n q : ℕ} → Reads p last varint (stopped n q) → RunRead p s e at (run-at.Refused n q)
       unfolding readRuns
@@ -54,50 +49,30 @@ run-inside g w = (rw w at g) .outcome .0
 
 ---- the runs so far
 
-pub record Sofar (p : List ℕ) (count : ℕ) (s₀ e₀ : ℤ) (at : ℕ) (runs : List Run) (left : ℕ) (s e : ℤ) (next : ℕ) : Type 0 where
-  pub inside : next ≤ length p
-  pub rest : (x : Answer (List Run)) → Reads p next (readRuns left s e) x → Reads p at (readRuns count s₀ e₀) (after runs x)
+module _ {p : List ℕ} {at : ℕ} {whole : Reader (List Run)} {runs : List Run} {left : ℕ} {s e : ℤ} {next : ℕ}
+    (f : Sofar p at whole runs next (readRuns left s e)) where
+  module _ {r : RunAt} (g : RunRead p s e next r) (h : 0 < left) where
+    one : suc (left - 1) ≡ left
+    one = omega arith
 
-module _ {p : List ℕ} {count : ℕ} {s₀ e₀ : ℤ} {at : ℕ} where
-  pub sofar-none : at ≤ length p → Sofar p count s₀ e₀ at [] count s₀ e₀ at
-  sofar-none h = record { inside = h; rest = go }
-    where
-      go : (x : Answer (List Run)) → Reads p at (readRuns count s₀ e₀) x → Reads p at (readRuns count s₀ e₀) (after [] x)
-      go (read rs q) y = y
-      go (stopped n q) y = y
+    pub runs-more :
+        {s′ e′ a b : ℤ} {n next′ : ℕ} → r ≡ run-at.Run s′ e′ n next′ → a ≡ s′ → b ≡ e′ →
+        Sofar p at whole (runs ++ (runOf s′ e′ n ∷ [])) next′ (readRuns (left - 1) a b)
+    runs-more w u v = let o = (rw w at g) .outcome in rw (u, v) (sofar-more f (o .0) (λ x y. rw (← one) (o .1 (left - 1) x y)))
 
-  module _ {runs : List Run} {left : ℕ} {s e : ℤ} {next : ℕ} (f : Sofar p count s₀ e₀ at runs left s e next) where
-    module _ {r : RunAt} (g : RunRead p s e next r) (h : 0 < left) where
-      one : suc (left - 1) ≡ left
-      one = omega arith
+    pub runs-stop : {n q : ℕ} → r ≡ run-at.Refused n q → Reads p at whole (stopped n q)
+    runs-stop w = sofar-stop f (rw (← one) ((rw w at g) .outcome (left - 1)))
 
-      pub sofar-more :
-          {s′ e′ a b : ℤ} {n next′ : ℕ} → r ≡ run-at.Run s′ e′ n next′ → a ≡ s′ → b ≡ e′ →
-          Sofar p count s₀ e₀ at (runs ++ (runOf s′ e′ n ∷ [])) (left - 1) a b next′
-      sofar-more {s′} {e′} {n = n} w u v =
-          let o = (rw w at g) .outcome in
-          rw (u, v) (record { inside = o .0; rest = λ x y. joined x (f .rest (after (runOf s′ e′ n ∷ []) x) (rw (← one) (o .1 (left - 1) x y))) })
-        where
-          joined :
-              (x : Answer (List Run)) → Reads p at (readRuns count s₀ e₀) (after runs (after (runOf s′ e′ n ∷ []) x)) →
-              Reads p at (readRuns count s₀ e₀) (after (runs ++ (runOf s′ e′ n ∷ [])) x)
-          joined (read rs q) y = rw append-assoc y
-          joined (stopped m q) y = y
-
-      pub sofar-stop : {n q : ℕ} → r ≡ run-at.Refused n q → Reads p at (readRuns count s₀ e₀) (stopped n q)
-      sofar-stop {n} {q} w = f .rest (stopped n q) (rw (← one) ((rw w at g) .outcome (left - 1)))
-
-    pub sofar-all : left ≤ 0 → Reads p at (readRuns count s₀ e₀) (read runs next)
-    unfolding readRuns
-    sofar-all h =
-        let none : left ≡ 0 = omega arith in
-        rw append-nil at (f .rest (read [] next) (rw none (reads-pure [] (f .inside))))
+pub runs-all : {p : List ℕ} {at : ℕ} {whole : Reader (List Run)} {runs : List Run} {next : ℕ} (left : ℕ) (s e : ℤ) →
+    Sofar p at whole runs next (readRuns left s e) → left ≤ 0 → Reads p at whole (read runs next)
+unfolding readRuns
+runs-all left s e f h = let none : left ≡ 0 = omega arith in sofar-all f (rw none (reads-pure [] (f .inside)))
 
 ---- the runs so far, with their spans in the table
 
 pub record Filling (p table₀ table : List ℕ) (used size count at from left : ℕ) (s e : ℤ) (next : ℕ) : Type 0 where
   pub runs : List Run
-  pub sofar : Sofar p count (pos 0) (pos 0) at runs left s e next
+  pub sofar : Sofar p at (readRuns count (pos 0) (pos 0)) runs next (readRuns left s e)
   pub filled : from ≡ used + total runs
   pub fits : from ≤ used + size
   pub same : length table ≡ length table₀
@@ -128,7 +103,7 @@ module _ {p table₀ : List ℕ} {used size count at : ℕ} where
             Filling p table₀ table′ used size count at (from + n) (left - 1) a b next′
         filling-more {table′} k l x y m = record {
           runs = f .runs ++ (runOf s′ e′ n ∷ []);
-          sofar = sofar-more (f .sofar) g h w u v;
+          sofar = runs-more (f .sofar) g h w u v;
           filled = omega (arith, f .filled, grown);
           fits = k;
           same = l ∙ f .same;
@@ -142,7 +117,7 @@ module _ {p table₀ : List ℕ} {used size count at : ℕ} where
         -- the counts pass the code's length
         pub filling-over : (x : Part) → used + size < from + n → {t : Refusal} → Refuses p (left - 1) a b next′ t →
             Reads p at (readRuns count (pos 0) (pos 0) >>= counted size x) (stopped (t .number) (t .place))
-        filling-over x k {t} o = go (o .answer) (o .is) (sofar-more (f .sofar) g h w u v .rest (o .answer) (o .reads))
+        filling-over x k {t} o = go (o .answer) (o .is) (runs-more (f .sofar) g h w u v .all (o .answer) (o .reads))
           where
             runs : List Run
             runs = f .runs ++ (runOf s′ e′ n ∷ [])
@@ -153,11 +128,11 @@ module _ {p table₀ : List ℕ} {used size count at : ℕ} where
             go (stopped m q) i y = rw i (reads-stop _ y)
 
       pub filling-stop : {m q : ℕ} (x : Part) → r ≡ run-at.Refused m q → Reads p at (readRuns count (pos 0) (pos 0) >>= counted size x) (stopped m q)
-      filling-stop x w = reads-stop _ (sofar-stop (f .sofar) g h w)
+      filling-stop x w = reads-stop _ (runs-stop (f .sofar) g h w)
 
     module _ (h : left ≤ 0) where
       pub filling-under : (x : Part) → from < used + size → Reads p at (readRuns count (pos 0) (pos 0) >>= counted size x) (stopped 7 next)
-      filling-under x k = miscounted count size x (sofar-all (f .sofar) h) (λ d. omega (arith, d, f .filled))
+      filling-under x k = miscounted count size x (runs-all left s e (f .sofar) h) (λ d. omega (arith, d, f .filled))
 
       pub filling-all : used + size ≤ from → Stored p table₀ table used size count at next
-      filling-all k = record { runs = f .runs; reads = sofar-all (f .sofar) h; each = omega (arith, f .filled, f .fits); stored = f .stored }
+      filling-all k = record { runs = f .runs; reads = runs-all left s e (f .sofar) h; each = omega (arith, f .filled, f .fits); stored = f .stored }

@@ -10,7 +10,7 @@ use borrow.Author.Tests.{ltb-true}
 use Rattle.varint.specs.Laws.Varint.{varint-one}
 use Rattle.payload.specs.Numbers.{varint}
 use Rattle.read_items.specs.Reads.{read, Reads}
-use Rattle.read_code.proofs.Found.{was-number}
+use Rattle.read_items.specs.Laws.Reads.{reads-varint}
 use Rattle.read_code.specs.Runs.{ShortRun}
 
 both : (a b : Bool) → (a && b) ≡ true → (a ≡ true) × (b ≡ true)
@@ -25,7 +25,7 @@ short-run p at h e =
     record { inside = h; start = ltb-true _ _ (g .0); end = ltb-true _ _ (g .1); count = ltb-true _ _ (f .1) }
 
 one : (p : List ℕ) (at next : ℕ) → at < length p → getD p at 0 < 128 → next ≡ at + 1 → Reads p at varint (read (getD p at 0) next)
-one p at next h l e = rw e (was-number (varint-one p at h l) refl)
+one p at next h l e = rw e (rw (varint-one p at h l) at (reads-varint p at))
 
 module _ {p : List ℕ} {at : ℕ} (h : ShortRun p at) where
   pub short-start : Reads p at varint (read (getD p at 0) (at + 1))

@@ -1,5 +1,5 @@
 -- What the functions that read runs have to do with the definition's readers.
-use mathlib.Core.List.{List, [], _∷_, _++_}
+use mathlib.Core.List.{List, [], _∷_}
 use mathlib.Core.Path.{_≡_}
 use Prim.Native.Nat.{ℕ, suc, _+_, _*_, _≤_, _<_}
 use lib.Dec.{eqb}
@@ -11,8 +11,7 @@ use Rattle.payload.specs.Reader.{Reader, Part, _>>=_, _>>_, here, must, pure}
 use Rattle.payload.specs.Spans.{Span, Run, Code, expand, total, readRuns}
 use Rattle.payload.specs.Tables.{spanWords}
 use Rattle.read_items.specs.Reads.{Answer, read, stopped, Reads}
-use Rattle.read_code.specs.declared.PositionAt.{PositionAt}
-use Rattle.read_code.specs.declared.PositionAt.the-variants as position-at
+use Rattle.read_items.specs.Laws.Sofar.{after}
 use Rattle.read_code.specs.declared.RunAt.{RunAt}
 use Rattle.read_code.specs.declared.RunAt.the-variants as run-at
 use Rattle.read_code.specs.declared.RunsAt.{RunsAt}
@@ -21,10 +20,6 @@ use Rattle.read_code.specs.declared.Refusal.{Refusal}
 
 abbrev pub spanOf : ℕ → ℕ → Span
 spanOf start end = record { start = start; end = end }
-
-abbrev pub positionAnswer : PositionAt → Answer ℤ
-positionAnswer (position-at.Position z next) = read z next
-positionAnswer (position-at.Refused n q) = stopped n q
 
 ---- one run
 
@@ -37,11 +32,6 @@ pub record ShortRun (p : List ℕ) (at : ℕ) : Type 0 where
 
 abbrev pub runOf : ℤ → ℤ → ℕ → Run
 runOf s e count = record { span = spanOf (wordOf s) (wordOf e); count = count }
-
--- runs that were read, in front of what the rest of the reading answers
-abbrev pub after : List Run → Answer (List Run) → Answer (List Run)
-after rs (read more next) = read (rs ++ more) next
-after rs (stopped n q) = stopped n q
 
 -- A run, read after the positions s and e: what the runs behind it answer, with it in front, all of them answer from its place on.
 abbrev pub RunOutcome : List ℕ → ℤ → ℤ → ℕ → RunAt → Type 0

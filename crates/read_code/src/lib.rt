@@ -5,24 +5,19 @@ ghost use mathlib.Core.Path.{_≡_};
 ghost use Prim.Native.Nat.{_+_, _*_, _≤_, min};
 ghost use lib.ListN.{length, replicate};
 ghost use Rattle.slices.specs.Put.{put};
-ghost use Rattle.payload.specs.Spans.{readPosition};
 ghost use Rattle.payload.specs.Tables.{spanWords};
-ghost use Rattle.read_items.specs.Reads.{Reads};
 ghost use Rattle.read_code.specs.CodeRead.{CodeFilled, CodeRead};
-ghost use Rattle.read_code.specs.Runs.{positionAnswer, ShortRun, RunRead, RunsRead, Refuses, spanOf};
+ghost use Rattle.read_code.specs.Runs.{ShortRun, RunRead, RunsRead, Refuses, spanOf};
 use cursor::Body;
+use read_items::Number;
+use read_items::PositionAt;
+use read_items::items;
+use read_items::positions;
 use varint::Position;
-use varint::Varint;
 
 // Code: its offset, its length and the place after its runs; or a refusal's number and place.
 pub enum CodeAt {
     Code(usize, usize, usize),
-    Refused(u64, usize),
-}
-
-// A running position and the place after its delta, or a refusal's number and place.
-enum PositionAt {
-    Position(i64, usize),
     Refused(u64, usize),
 }
 
@@ -43,27 +38,19 @@ struct Refusal {
     place: usize,
 }
 
-fn read_position(bytes: &[u8], old: i64, at: usize) -> PositionAt
-    ensures { λ r. ⌜ Reads (now (bytes .entry)) at (readPosition old) (positionAnswer r) ⌝ }
-{
-    match cursor::read_uvarint(bytes, at) {
-        Varint::Number(delta, next) => match varint::add_delta(old, varint::unzigzag(delta)) {
-            Position::At(new) => PositionAt::Position(new, next),
-            Position::OutOfRange => PositionAt::Refused(8, at),
-        },
-        Varint::Refused(n, q) => PositionAt::Refused(n, q),
-    }
-}
-
 // A run after one with this start and end.
 fn read_run_long(bytes: &[u8], start: i64, end: i64, at: usize) -> RunAt
     ensures { λ r. ⌜ RunRead (now (bytes .entry)) start end at r ⌝ }
 {
-    match read_position(bytes, start, at) {
-        PositionAt::Position(s, after_start) => match read_position(bytes, end, after_start) {
-            PositionAt::Position(e, after_end) => match cursor::read_uvarint(bytes, after_end) {
-                Varint::Number(count, next) => RunAt::Run(s, e, count, next),
-                Varint::Refused(n, q) => RunAt::Refused(n, q),
+    match positions::read_position(bytes, start, at) {
+        PositionAt::Position(s, after_start) => match positions::read_position(
+            bytes,
+            end,
+            after_start,
+        ) {
+            PositionAt::Position(e, after_end) => match items::read_uvarint(bytes, after_end) {
+                Number::Read(count, next) => RunAt::Run(s, e, count, next),
+                Number::Refused(n, q) => RunAt::Refused(n, q),
             },
             PositionAt::Refused(n, q) => RunAt::Refused(n, q),
         },
@@ -234,16 +221,16 @@ fn fill_spans(bytes: &[u8], spans: &mut [u64], used: usize, most: usize, at: usi
     requires { ⌜ (used ≤ most) × (2 * most ≤ length (now spans)) ⌝ }
     ensures { λ r. ⌜ CodeFilled (now (bytes .entry)) (now (spans .entry)) (now (spans .exit)) used most at r ⌝ }
 {
-    match cursor::read_uvarint(bytes, at) {
-        Varint::Number(length, first) => {
+    match items::read_uvarint(bytes, at) {
+        Number::Read(length, first) => {
             let size = length as usize;
             match cursor::read_body(bytes, first, size) {
                 Body::At(offset, body_end) => {
                     if most - used < size {
                         return CodeAt::Refused(23, body_end);
                     }
-                    match cursor::read_uvarint(bytes, body_end) {
-                        Varint::Number(count, runs) => match read_runs(
+                    match items::read_uvarint(bytes, body_end) {
+                        Number::Read(count, runs) => match read_runs(
                             bytes,
                             spans,
                             used,
@@ -254,13 +241,13 @@ fn fill_spans(bytes: &[u8], spans: &mut [u64], used: usize, most: usize, at: usi
                             RunsAt::End(next) => CodeAt::Code(offset, size, next),
                             RunsAt::Refused(n, q) => CodeAt::Refused(n, q),
                         },
-                        Varint::Refused(n, q) => CodeAt::Refused(n, q),
+                        Number::Refused(n, q) => CodeAt::Refused(n, q),
                     }
                 }
                 Body::Short(q) => CodeAt::Refused(1, q),
             }
         }
-        Varint::Refused(n, q) => CodeAt::Refused(n, q),
+        Number::Refused(n, q) => CodeAt::Refused(n, q),
     }
 }
 

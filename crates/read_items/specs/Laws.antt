@@ -2,8 +2,5 @@ pub mod Varint
 pub mod Reads
 pub mod Sofar
 pub mod Numbers
-pub mod Scalars
 pub mod Positions
 pub mod Context
-pub mod Heads
-pub mod Following

@@ -2,8 +2,4 @@ pub mod Reads
 pub mod Context
 pub mod Numbers
 pub mod Positions
-pub mod Class
-pub mod Scalars
-pub mod Heads
-pub mod Following
 pub mod Laws

@@ -54,7 +54,7 @@ module _ {p pool : List ℕ} {most at : ℕ} where
 
       pub flagged :
           {o n : ℕ} {table table′ : List ℕ} {k next : ℕ} → o ≡ b .offset → n ≡ length (b .bytes) → Stored p table table′ most count first k next →
-          Accepted p pool table table′ most at (λ e. readFlagged e 1) 1 o n k next
+          Accepted p pool table table′ most at (λ e. readFlagged e 1) (record { flag = 1; «name_o» = o; «name_n» = n; starts = k; next = next })
       unfolding readFlagged contextOf lineFlag lineName lineStarts
       flagged i l s =
           record {
@@ -83,7 +83,8 @@ module _ {p pool : List ℕ} {most at : ℕ} where
     unfolding readLineIndex
     bad-flag l = record { reads = λ c names h. reads-here _ (reads-then _ g (reads-must-not _ (lt-leb flag 1 l))) }
 
-    pub without-lines : {table : List ℕ} → flag ≡ 0 → Accepted p pool table table most at readLineIndex 0 0 0 0 next
+    pub without-lines : {table : List ℕ} → flag ≡ 0 →
+        Accepted p pool table table most at readLineIndex (record { flag = 0; «name_o» = 0; «name_n» = 0; starts = 0; next = next })
     unfolding readLineIndex readFlagged lineFlag lineName lineStarts
     without-lines {table} e = record {
       line = none;
@@ -107,7 +108,7 @@ module _ {p pool : List ℕ} {most at : ℕ} where
       pub with-lines :
           {table table′ : List ℕ} {r : LinesAt} → LinesFilled p pool table table′ most next (λ e. readFlagged e 1) r →
           LinesFilled p pool table table′ most at readLineIndex r
-      with-lines {r = Lines flag o n k end} f = let a = f .outcome in record {
+      with-lines {r = Lines l} f = let a = f .outcome in record {
         outcome = record {
           line = a .line;
           is = after-flag (a .is);

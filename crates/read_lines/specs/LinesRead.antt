@@ -13,6 +13,7 @@ use Rattle.payload.specs.Tables.{lineFlag, lineName, lineStarts}
 use Rattle.payload.specs.Trees.{LineIndex}
 use Rattle.read_items.specs.Reads.{Answer, read, stopped, Reads}
 use Rattle.read_items.specs.Context.{contextOf}
+use Rattle.read_lines.specs.declared.LineIndexAt.{LineIndexAt}
 use Rattle.read_lines.specs.declared.LinesAt.{LinesAt}
 use Rattle.read_lines.specs.declared.LinesAt.the-variants.{Lines, Refused}
 
@@ -20,20 +21,20 @@ use Rattle.read_lines.specs.declared.LinesAt.the-variants.{Lines, Refuse
 pub record InContext {A : Type 0} (p pool : List ℕ) (most at : ℕ) (reader : Context → Reader A) (answer : Answer A) : Type 0 where
   pub reads : (c : Capacities) (names : List ℕ) → c .starts ≡ most → Reads p at (reader (contextOf c p names pool)) answer
 
--- a line index, or none, which ends at `next`: its starts stand in the table from its begin
-pub record Accepted (p pool table table′ : List ℕ) (most at : ℕ) (reader : Context → Reader (Option (LineIndex Part))) (flag o n k next : ℕ) : Type 0 where
+-- a line index, or none: its starts stand in the table from its begin
+pub record Accepted (p pool table table′ : List ℕ) (most at : ℕ) (reader : Context → Reader (Option (LineIndex Part))) (l : LineIndexAt) : Type 0 where
   pub line : Option (LineIndex Part)
-  pub is : InContext p pool most at reader (read line next)
-  pub flag-is : flag ≡ lineFlag line
-  pub offset-is : o ≡ lineName line .offset
-  pub length-is : n ≡ length (lineName line .bytes)
-  pub each : k ≡ length (lineStarts line)
+  pub is : InContext p pool most at reader (read line (l .next))
+  pub flag-is : l .flag ≡ lineFlag line
+  pub offset-is : l .«name_o» ≡ lineName line .offset
+  pub length-is : l .«name_n» ≡ length (lineName line .bytes)
+  pub each : l .starts ≡ length (lineStarts line)
   pub stored : table′ ≡ put table 0 (lineStarts line)
-  pub fits : k ≤ most
-  pub inside : next ≤ length p
+  pub fits : l .starts ≤ most
+  pub inside : l .next ≤ length p
 
 abbrev pub Outcome : List ℕ → List ℕ → List ℕ → List ℕ → ℕ → ℕ → (Context → Reader (Option (LineIndex Part))) → LinesAt → Type 0
-Outcome p pool table table′ most at reader (Lines flag o n k next) = Accepted p pool table table′ most at reader flag o n k next
+Outcome p pool table table′ most at reader (Lines l) = Accepted p pool table table′ most at reader l
 Outcome p pool table table′ most at reader (Refused n q) = InContext p pool most at reader (stopped n q)
 
 -- r is what the definition's reader reads at a place of p; nothing is said of the table after a refusal
@@ -41,7 +42,7 @@ pub record LinesFilled (p pool table table′ : List ℕ) (most at : ℕ) (reade
   pub outcome : Outcome p pool table table′ most at reader r
 
 abbrev pub Cleared : List ℕ → List ℕ → LinesAt → Type 0
-Cleared table table′ (Lines flag o n k next) = Unit {0}
+Cleared table table′ (Lines l) = Unit {0}
 Cleared table table′ (Refused n q) = table′ ≡ zeros (length table)
 
 -- r is what the definition reads at a place of p, and `table′` is the table after it: the starts stored, or zeros at a refusal

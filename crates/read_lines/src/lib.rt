@@ -11,9 +11,18 @@ use read_items::PositionAt;
 use read_items::items;
 use read_items::positions;
 
-// The flag, the name's offset and length, the count of the starts and the place after the line index; or a refusal's number and place.
+// A line index that was read, or that there is none: its flag, its name's offset and length, the count of its starts and the place after it.
+pub struct LineIndexAt {
+    pub flag: u64,
+    pub name_o: usize,
+    pub name_n: usize,
+    pub starts: usize,
+    pub next: usize,
+}
+
+// A line index, or a refusal's number and place.
 pub enum LinesAt {
-    Lines(u64, usize, usize, usize, usize),
+    Lines(LineIndexAt),
     Refused(u64, usize),
 }
 
@@ -56,7 +65,13 @@ fn read_flagged(bytes: &[u8], pool: &[u64], starts: &mut [u32], most: usize, at:
     match items::read_pool_index(bytes, pool, at) {
         PartAt::Part(o, n, count_at) => match items::read_uvarint(bytes, count_at) {
             Number::Read(count, first) => match read_starts(bytes, starts, most, count, first) {
-                StartsAt::Starts(k, next) => LinesAt::Lines(1, o as usize, n as usize, k, next),
+                StartsAt::Starts(k, next) => LinesAt::Lines(LineIndexAt {
+                    flag: 1,
+                    name_o: o as usize,
+                    name_n: n as usize,
+                    starts: k,
+                    next: next,
+                }),
                 StartsAt::Refused(n, q) => LinesAt::Refused(n, q),
             },
             Number::Refused(n, q) => LinesAt::Refused(n, q),
@@ -76,7 +91,13 @@ fn fill_starts(bytes: &[u8], pool: &[u64], starts: &mut [u32], most: usize, at: 
                 return LinesAt::Refused(13, at);
             }
             if flag == 0 {
-                return LinesAt::Lines(0, 0, 0, 0, next);
+                return LinesAt::Lines(LineIndexAt {
+                    flag: 0,
+                    name_o: 0,
+                    name_n: 0,
+                    starts: 0,
+                    next: next,
+                });
             }
             read_flagged(bytes, pool, starts, most, next)
         }
@@ -96,13 +117,7 @@ pub fn read_line_index(
     ensures { λ r. ⌜ LinesRead (now (bytes .entry)) (now (pool .entry)) (now (starts .entry)) (now (starts .exit)) most at r ⌝ }
 {
     match fill_starts(bytes, pool, starts, most, at) {
-        LinesAt::Lines(flag, name_o, name_n, count, next) => LinesAt::Lines(
-            flag,
-            name_o,
-            name_n,
-            count,
-            next,
-        ),
+        LinesAt::Lines(lines) => LinesAt::Lines(lines),
         LinesAt::Refused(n, q) => {
             slices::zero_u32_from(starts, 0);
             LinesAt::Refused(n, q)

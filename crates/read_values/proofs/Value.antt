@@ -18,10 +18,10 @@ use Rattle.payload.specs.Spans.{Span, readCode}
 use Rattle.payload.specs.Tables.{spanWords}
 use Rattle.payload.specs.Trees.{Item, Node, Trees, code, cons, nodeOf, single}
 use Rattle.read_items.specs.Context.{contextOf, partOf}
-use Rattle.read_items.specs.Heads.{HeadOut, ReadsHead, RowRead, countIn, headWords, rowsUnder}
+use Rattle.read_heads.specs.Heads.{HeadOut, ReadsHead, RowRead, countIn, headWords, rowsUnder}
 use Rattle.read_items.specs.Reads.{Reads, read, stateAt, stopped}
-use Rattle.read_items.specs.declared.Head.{Head}
-use Rattle.read_items.specs.declared.Head.the-variants as head
+use Rattle.read_heads.specs.declared.Head.{Head}
+use Rattle.read_heads.specs.declared.Head.the-variants as head
 use Rattle.read_code.specs.CodeRead.{Accepted, CodeRead}
 use Rattle.read_code.specs.declared.CodeAt.{CodeAt}
 use Rattle.read_code.specs.declared.CodeAt.the-variants as code-at

@@ -15,9 +15,8 @@ use crate::rows;
 use payload::Capacities;
 use payload::Program;
 use read_code::CodeAt;
-use read_items::Head;
+use read_heads::Head;
 use read_items::Number;
-use read_items::heads;
 use read_items::items;
 
 // The highest tag of a value.
@@ -66,8 +65,15 @@ pub fn read_value(
             state.at_place(at + 1),
         );
     }
-    match heads::read_head(heads::class_of(tag), bytes, names, pool, at + 1) {
-        Head::Row(a, b, c, d, count, next) => {
+    match read_heads::read_head(read_heads::class_of(tag), bytes, names, pool, at + 1) {
+        Head::Row {
+            a,
+            b,
+            c,
+            d,
+            count,
+            next,
+        } => {
             let after = rows::store_row(rows, state, next, tag, a, b, c, d);
             if count == 0 {
                 return Step::Done(after);
@@ -250,8 +256,15 @@ fn read_field(
     if capacities.rows <= state.rows {
         return Step::Refused(22, state.at);
     }
-    match heads::read_field_head(bytes, pool, state.at) {
-        Head::Row(a, b, c, d, count, next) => {
+    match read_heads::read_field_head(bytes, pool, state.at) {
+        Head::Row {
+            a,
+            b,
+            c,
+            d,
+            count,
+            next,
+        } => {
             let after = rows::store_row(rows, state, next, 33, a, b, c, d);
             read_values(
                 left,
@@ -292,8 +305,15 @@ fn read_closure(
             if rows[Program::ROW_WIDTH * inner.rows] != 7 {
                 return Step::Refused(11, state.at);
             }
-            match heads::read_closure_head(bytes, mid.at) {
-                Head::Row(a, b, c, d, count, next) => {
+            match read_heads::read_closure_head(bytes, mid.at) {
+                Head::Row {
+                    a,
+                    b,
+                    c,
+                    d,
+                    count,
+                    next,
+                } => {
                     rows::write_row(rows, state.rows, 18, a, b, c, d);
                     read_values(
                         left,

@@ -24,18 +24,24 @@ mul-zero-u64-from-2 c =
     let pre = at-read-outer .before .before .before .before .before .before .before .before .before .pre in
     let outer = ran-of (at-state .state .given .1) (at-read-outer .read-outer .ensures .did) in omega (arith, outer .1 .covered, pre .0 .few-spans)
 
+same-length : tie.Need-same-length
+same-length c =
+    let at-zero-u64-from = c .before .before .before .before .before .before .before .before .before .before .before in
+    let read-outer = at-zero-u64-from .before .before .before .before .before .before .before .before .before .before .before .before .before .before .before .before .before .read-outer in
+    at-zero-u64-from .zero-u64-from .kept .0 ∙ read-outer .kept .1 .1 .1 .0
+
 returns : tie.Need-returns
 returns c =
     let at-zero-u64-from2 = c .before .before .before .before .before .before in
     let at-zero-u64-from = at-zero-u64-from2 .before .before .before .before .before in
-    let at-flag = at-zero-u64-from .before .before .before .before in
-    let at-read-line-index = at-flag .before .before .before .before in
+    let at-lines = at-zero-u64-from .before .before .before .before in
+    let at-read-line-index = at-lines .before .before .before .before in
     let state = at-read-line-index .before .before .before .state in
     let at-read-outer = at-read-line-index .before .before .before .before .before .before .before .before .before in
     let start = at-read-outer .before .before .before .before .before .before .before .before .before in
     let asked = start .pre in
     let outer = ran-of (state .given .1) (at-read-outer .read-outer .ensures .did) in
-    let lines = was-lines (at-read-line-index .read-line-index .ensures) (at-flag .flag .given .1) in
+    let lines = was-lines (at-read-line-index .read-line-index .ensures) (at-lines .lines .given .1) in
     accepted-leaves (start .args .names .now) (start .args .at) (outer .1) (asked .0) (asked .1 .1 .0) (asked .1 .1 .1) (asked .1 .0) lines
     (at-zero-u64-from .zero-u64-from .ensures) (at-zero-u64-from2 .zero-u64-from2 .ensures) (c .before .before .zero-u32-from .ensures)
 
@@ -56,12 +62,13 @@ returns-2 c =
 
 returns-3 : tie.Need-returns-3
 returns-3 c =
-    let at-n2 = c .before .before .before .before .before .before .before .before .before .before .before in
-    let read-outer = at-n2 .before .before .before .before .before .before .read-outer in
-    let cleared = c .before .before .before .before .before .before .clear-script .ensures in
-    let kept = read-outer .kept .1 .1 .1 in
-    refused-leaves (script-no-chunk _ _ (no-of (at-n2 .n2 .given .1) (read-outer .ensures .did))) (cleared .0 ∙ ap zeros (kept .0))
-    (cleared .1 .0 ∙ ap zeros (kept .1 .0)) (cleared .1 .1)
+    let at-n2 = c .before .before .before .before .before in
+    let at-read-outer = at-n2 .before .before .before .before .before .before in
+    let read-outer = at-read-outer .read-outer in
+    let args = at-read-outer .before .before .before .before .before .before .before .before .before .args in
+    let cleared = rw (at-n2 .n2 .given .1) at (read-outer .ensures .cleared) in
+    refused-leaves (script-no-chunk _ _ (no-of (at-n2 .n2 .given .1) (read-outer .ensures .did))) (cleared .0) (cleared .1)
+    (c .before .before .zero-u32-from2 .ensures ∙ zeroFrom-zero (args .starts .now))
 
 pub read-script-spec : {M : Type 1} → statement M
 read-script-spec =
@@ -81,7 +88,7 @@ read-script-spec =
     (λ c κs. search needs)
     (λ c. search needs)
     (λ c κs. search needs)
-    (λ c. search needs)
+    same-length
     (λ c. search needs)
     (λ c. search needs)
     returns

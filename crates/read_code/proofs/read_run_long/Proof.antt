@@ -1,7 +1,8 @@
 -- `read_run_long` meets its contract.
 use borrow.Author.Needs.{needs}
 use mir.Facts.{toZ-ofZ}
-use Rattle.read_code.proofs.Found.{signed, was-number, no-number, was-position, no-position}
+use Rattle.read_items.specs.Laws.Positions.{signed, was-position, no-position}
+use Rattle.read_items.specs.Laws.Reads.{was-read, was-refused}
 use Rattle.read_code.proofs.Runs.{run-read, count-refused, end-refused, start-refused}
 use Rattle.read_code.proofs.read_run_long.Statement.{statement}
 use Rattle.read_code.proofs.read_run_long.Tie as tie
@@ -17,7 +18,7 @@ returns c =
     let fits = start .before .before .before .before .before .fits in
     let s = was-position (toZ-ofZ (fits .start)) (s-told .given .1) (read-position .ensures) in
     let e = was-position (toZ-ofZ (fits .end)) (e-told .given .1) (read-position2 .ensures) in
-    let count = was-number (c .before .count .given .1) (c .before .before .before .read-uvarint .ensures) in
+    let count = was-read (c .before .count .given .1) (c .before .before .before .read-uvarint .ensures) in
     run-read s e count (signed (start .known-told .given .0 .1)) (signed (end .known-told2 .given .0 .1))
 
 returns-2 : tie.Need-returns-2
@@ -29,7 +30,7 @@ returns-2 c =
     let fits = at-s .before .before .before .before .fits in
     let s = was-position (toZ-ofZ (fits .start)) (at-s .s .given .1) (read-position .ensures) in
     let e = was-position (toZ-ofZ (fits .end)) (at-e .e .given .1) (read-position2 .ensures) in
-    count-refused s e (no-number (c .before .n .given .1) (c .before .before .before .read-uvarint .ensures))
+    count-refused s e (was-refused (c .before .n .given .1) (c .before .before .before .read-uvarint .ensures))
 
 returns-3 : tie.Need-returns-3
 returns-3 c =

@@ -3,7 +3,7 @@ use native.Mathlib.Omega.{arith}
 use borrow.Author.Needs.{needs}
 use mir.Syntax.{w64}
 use mir.Val.{toZ}
-use Rattle.read_code.proofs.Found.{signed}
+use Rattle.read_items.specs.Laws.Positions.{signed}
 use Rattle.read_code.proofs.Runs.{Filling, run-inside, filling-none, filling-more, filling-over, filling-stop, filling-under, filling-all}
 use Rattle.read_code.proofs.read_runs.Statement.{statement}
 use Rattle.read_code.proofs.read_runs.Tie as tie

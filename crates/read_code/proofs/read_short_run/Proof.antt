@@ -2,7 +2,7 @@
 use mathlib.Core.Path.{_∙_}
 use borrow.Author.Needs.{needs}
 use mir.Facts.{toZ-ofZ}
-use Rattle.read_code.proofs.Found.{signed, reads-position, reads-no-position}
+use Rattle.read_items.specs.Laws.Positions.{signed, reads-position, reads-no-position}
 use Rattle.read_code.proofs.Runs.{run-read, end-refused, start-refused}
 use Rattle.read_code.proofs.Short.{short-start, short-end, short-count}
 use Rattle.read_code.proofs.read_short_run.Statement.{statement}

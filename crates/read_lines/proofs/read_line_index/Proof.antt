@@ -9,7 +9,7 @@ use Rattle.read_lines.proofs.read_line_index.Tie as tie
 returns : tie.Need-returns
 returns c =
     let fill-starts = c .before .before .before .before .before .fill-starts in
-    record { outcome = (rw (c .before .flag .given .1) at (fill-starts .ensures)) .outcome; cleared = tt }
+    record { outcome = (rw (c .before .lines .given .1) at (fill-starts .ensures)) .outcome; cleared = tt }
 
 returns-2 : tie.Need-returns-2
 returns-2 c =

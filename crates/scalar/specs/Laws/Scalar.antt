@@ -44,7 +44,8 @@ pub each-scalar-tag : (P : ℕ → Type 0) → P 0 → P 1 → P 2 → P 3 → P
 each-scalar-tag P p0 p1 p2 p3 p4 p5 p19 p20 p21 p22 p23 p24 p25 p26 t e =
     ⊎-elim
     (λ h. from P 0 t zero-le p0 (λ l0. from P 1 t l0 p1 (λ l1. from P 2 t l1 p2 (λ l2. from P 3 t l2 p3 (λ l3. from P 4 t l3 p4 (λ l4. from P 5 t l4 p5 (λ l5. absurd (omega arith))))))))
-    (λ h. from P 19 t (h .0) p19 (λ l19. from P 20 t l19 p20 (λ l20. from P 21 t l20 p21 (λ l21. from P 22 t l21 p22 (λ l22. from P 23 t l22 p23 (λ l23. from P 24 t l23 p24 (λ l24. from P 25 t l24 p25 (λ l25. from P 26 t l25 p26 (λ l26. absurd (omega arith))))))))))
+    (λ h. from P 19 t (h .0) p19 (λ l19. from P 20 t l19 p20 (λ l20. from P 21 t l20 p21 (λ l21. from P 22 t l21 p22 (λ l22.
+    from P 23 t l22 p23 (λ l23. from P 24 t l23 p24 (λ l24. from P 25 t l24 p25 (λ l25. from P 26 t l25 p26 (λ l26. absurd (omega arith))))))))))
     (tag-range t e)
 
 ---- the row of each

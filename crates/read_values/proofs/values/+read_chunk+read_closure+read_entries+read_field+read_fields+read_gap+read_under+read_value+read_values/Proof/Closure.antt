@@ -9,9 +9,9 @@ use Rattle.payload.specs.Reader.{andThen, _>>=_}
 use Rattle.payload.specs.Rows.{rootCount}
 use Rattle.payload.specs.Shapes.{ItemKind, shape, shapes}
 use Rattle.payload.specs.Trees.{cons}
-use Rattle.read_items.specs.Class.{shapeOf}
-use Rattle.read_items.specs.Heads.{rowsUnder}
-use Rattle.read_items.specs.declared.Class.the-variants.{Closure}
+use Rattle.read_heads.specs.Class.{shapeOf}
+use Rattle.read_heads.specs.Heads.{rowsUnder}
+use Rattle.read_heads.specs.declared.Class.the-variants.{Closure}
 use Rattle.read_values.specs.Laws.Did.{ran-of, no-of}
 use Rattle.read_values.specs.State.{stateOf}
 use Rattle.read_values.proofs.Shape.{closure-head, closure-no, closure-other, many-count}

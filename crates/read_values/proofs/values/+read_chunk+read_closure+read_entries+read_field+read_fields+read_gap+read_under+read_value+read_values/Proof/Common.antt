@@ -31,10 +31,10 @@ use Rattle.read_values.proofs.values.read_values.Kinds as read-values-k
 use Rattle.read_values.proofs.values.+read_chunk+read_closure+read_entries+read_field+read_fields+read_gap+read_under+read_value+read_values.Lts-read_values as read-values-lts
 use Rattle.key_test.proofs.test_key.Reads as test-key-reads
 use Rattle.read_code.proofs.read_code.Reads as read-code-reads
-use Rattle.read_items.proofs.heads.class_of.Reads as class-of-reads
-use Rattle.read_items.proofs.heads.read_closure_head.Reads as read-closure-head-reads
-use Rattle.read_items.proofs.heads.read_field_head.Reads as read-field-head-reads
-use Rattle.read_items.proofs.heads.read_head.Reads as read-head-reads
+use Rattle.read_heads.proofs.class_of.Reads as class-of-reads
+use Rattle.read_heads.proofs.read_closure_head.Reads as read-closure-head-reads
+use Rattle.read_heads.proofs.read_field_head.Reads as read-field-head-reads
+use Rattle.read_heads.proofs.read_head.Reads as read-head-reads
 use Rattle.read_items.proofs.items.read_uvarint.Reads as read-uvarint-reads
 use Rattle.read_values.proofs.State.at_place.Reads as at-place-reads
 use Rattle.read_values.proofs.State.with_row.Reads as with-row-reads

@@ -1,0 +1,5 @@
+pub mod Class
+pub mod Scalars
+pub mod Heads
+pub mod Following
+pub mod Laws
