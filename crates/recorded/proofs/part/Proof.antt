@@ -1,8 +1,8 @@
 -- `part` meets its contract: nothing, what is left, or all of the part.
-use mathlib.Core.Path.{_≡_, sym, _∙_}
-use Prim.Native.Nat.{_+_, _-_, _≤_}
+use mathlib.Core.Path.{_≡_, sym, ap, _∙_}
+use Prim.Native.Nat.{ℕ, _+_, _-_, _≤_}
 use native.Mathlib.Omega.{arith}
-use lib.ListN.{length}
+use lib.ListN.{length, take, drop}
 use borrow.Author.Needs.{needs}
 use Rattle.recorded.specs.Laws.Recorded.{part-none, part-rest}
 use Rattle.recorded.proofs.part.Statement.{statement}
@@ -24,7 +24,7 @@ returns-3 : tie.Need-returns-3
 returns-3 c =
     let args = c .before .before .before .args in
     let e : args .from + args .size - args .from ≡ args .size = omega arith in
-    rw e
+    ap (λ (n : ℕ). take n (drop (args .from) (args .bytes .now))) e
 
 pub part-spec : {M : Type 1} → statement M
 part-spec =
