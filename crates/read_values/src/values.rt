@@ -78,6 +78,9 @@ pub fn read_value(
             if count == 0 {
                 return Step::Done(after);
             }
+            if tag == 7 {
+                return read_chunk(deep, capacities, bytes, names, pool, rows, spans, after);
+            }
             read_under(
                 deep,
                 tag,
@@ -95,7 +98,7 @@ pub fn read_value(
     }
 }
 
-// What stands under a row that has been stored, of a value that is no closure. Under a function stands one chunk row.
+// What stands under a row that has been stored, of a value that is neither a function nor a closure.
 fn read_under(
     left: usize,
     tag: u64,
@@ -110,13 +113,10 @@ fn read_under(
 ) -> Step
     requires { ⌜ Fit capacities (now bytes) (now rows) (now spans) state ⌝ }
     requires { ⌜ PoolFits (now bytes) (now pool) ⌝ }
-    requires { ⌜ (tag ≤ 26) × (tag ≡ 7 → count ≡ 1) × (tag ≡ 18 → ⊥) ⌝ }
+    requires { ⌜ (tag ≤ 26) × (tag ≡ 7 → ⊥) × (tag ≡ 18 → ⊥) ⌝ }
     ensures { λ r. ⌜ Does manyTrees capacities (now (bytes .entry)) (now (names .entry)) (now (pool .entry)) (now (rows .entry)) (now (rows .exit))
         (now (spans .entry)) (now (spans .exit)) state r (λ e. readUnder e (readValue e left) (shape tag) count) ⌝ }
 {
-    if tag == 7 {
-        return read_chunk(left, capacities, bytes, names, pool, rows, spans, state);
-    }
     if tag == 14 {
         return read_entries(
             left,

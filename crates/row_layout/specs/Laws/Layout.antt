@@ -1,4 +1,4 @@
--- Every tag above 33 has the shape of a tag that no row has; what a test finds of all shapes holds of the shape of every tag; the second item begins at word 3 at most, a count stands at word 4 at most; which items are never code.
+-- Every tag above 33 has the shape of a tag that no row has; what a test finds of all shapes holds of the shape of every tag; the second item begins at word 3 at most, a count stands at word 4 at most; nothing is under a row of a low tag; which items are never code.
 use mathlib.Core.Bool.{Bool, true, false}
 use mathlib.Core.List.{List, [], _∷_}
 use mathlib.Core.Path.{_≡_, refl, sym, ap, _∙_}
@@ -7,7 +7,7 @@ use native.Mathlib.Nat.{add-zero, zero-add}
 use native.Mathlib.Omega.{arith}
 use lib.Dec.{leb, ltb, eqb}
 use lib.ListN.{length, getD, List·getD-eq-default}
-use borrow.Author.Tests.{le-leb, leb-true, leb-false, ltb-true, ltb-false, eqb-true, ne-eqb}
+use borrow.Author.Tests.{le-leb, le-ltb, lt-ltb, leb-true, leb-false, ltb-true, ltb-false, eqb-true, ne-eqb}
 use Rattle.payload.specs.Choice.{if_then_else_, _and_}
 use Rattle.payload.specs.Laws.Pool.{and-left, and-right}
 use Rattle.payload.specs.Rows.{kindWidth, kindsWidth}
@@ -84,6 +84,19 @@ count-is-low t = shape-all countLow refl refl refl (λ k h. refl) t
 pub count-word-low : (t : ℕ) → 2 ≤ underForm t → countWord t ≤ 4
 unfolding countLow underForm countWord if_then_else_
 count-word-low t h = leb-true (1 + kindsWidth (kindsOf (shape t))) 4 (rw (le-leb 2 (shapeForm (shape t)) h) at (count-is-low t))
+
+---- nothing is under a row with a tag below 7
+
+lowLeaf : ℕ → Shape → Bool
+lowLeaf t sh = if ltb t 7 then eqb (shapeForm sh) 0 else true
+
+low-is-leaf : (t : ℕ) → lowLeaf t (shape t) ≡ true
+unfolding lowLeaf allFrom shapes kidsForm shapeForm if_then_else_ _and_
+low-is-leaf t = shape-all lowLeaf refl refl refl (λ k h. rw (le-ltb k 7 (omega arith))) t
+
+pub low-form-none : (t : ℕ) → t < 7 → underForm t ≡ 0
+unfolding lowLeaf underForm if_then_else_
+low-form-none t h = eqb-true (shapeForm (shape t)) 0 (rw (lt-ltb t 7 h) at (low-is-leaf t))
 
 ---- where code can stand: only as the first item of a row with rows under it
 

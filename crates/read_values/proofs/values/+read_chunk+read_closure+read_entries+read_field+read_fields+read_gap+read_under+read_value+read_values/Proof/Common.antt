@@ -163,13 +163,15 @@ read-value-known t = (
   read-head-reads.Learnt,
   store-row-reads.Asked,
   store-row-reads.Learnt,
+  read-chunk-below t,
+  read-chunk.Post,
   read-under-below t,
   read-under.Post,
 )
 
 abbrev pub read-under-known : ℕ → read-under-lts.Claims
 read-under-known t =
-    (read-chunk-below t, read-chunk.Post, read-entries-below t, read-entries.Post, read-fields-below t, read-fields.Post, read-values-below t, read-values.Post)
+    (read-entries-below t, read-entries.Post, read-fields-below t, read-fields.Post, read-values-below t, read-values.Post)
 
 abbrev pub read-gap-known : ℕ → read-gap-lts.Claims
 read-gap-known t = (read-value-below t, read-value.Post)

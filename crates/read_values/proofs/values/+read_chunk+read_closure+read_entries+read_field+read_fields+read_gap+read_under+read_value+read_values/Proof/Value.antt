@@ -1,3 +1,5 @@
+use Rattle.read_values.proofs.Loop.{did-gap-one}
+use Rattle.read_values.proofs.Shape.{under-function, function-count, value-deep, value-end, value-full, value-shape, value-tag-bad}
 -- `read_value`: the first tests, then the row and what is under it.
 use Prim.Native.Nat.{ℕ, _+_}
 use mathlib.Core.Path.{refl}
@@ -7,7 +9,6 @@ use Rattle.payload.specs.Shapes.{shape}
 use Rattle.read_items.specs.Context.{contextOf}
 use Rattle.read_values.proofs.Tags.{no-template}
 use Rattle.read_values.specs.Laws.Did.{did-same}
-use Rattle.read_values.proofs.Shape.{function-count, value-deep, value-end, value-full, value-shape, value-tag-bad}
 use Rattle.read_values.proofs.Value.{did-leaf, did-shape, no-row, no-shape, row-of}
 use borrow.Author.Needs.{needs}
 use borrow.Fn.PlainCycle.{is}
@@ -93,9 +94,49 @@ read-value-returns-6 t c =
     (did-leaf _ _ _ _ _ tag (shape tag) refl (no-template tag (if2 .left) (at-if5 .if5 .left)) (args .state .at + 1) head (store-row .ensures) (c .if6 .taken)
     (rw (store-row .ensures .after) (omega (arith, start .pre .1 .0, store-row .kept, if4 .left, head .is (args .capacities) .inside))))
 
+read-value-read-chunk-requires : (t : ℕ) → read-value-lts.Need-read-chunk-requires (read-value-known t) (read-value-at t) read-value.Post
+read-value-read-chunk-requires t c κs =
+    let at-store-row = c .before .before .before .before .before .before in
+    let store-row = at-store-row .store-row in
+    let a = at-store-row .before .before .before .a in
+    let at-read-head = at-store-row .before .before .before .before .before in
+    let class-of = at-read-head .before .class-of in
+    let if4 = at-read-head .before .before .before .if4 in
+    let at-if3 = at-read-head .before .before .before .before .before .before in
+    let start = at-if3 .before .before .before .before .before .before .before .before .before in
+    let head = row-of (a .given .1) (rw (class-of .ensures) at (at-read-head .read-head .ensures)) in (
+      omega (arith, start .pre .0, at-if3 .if3 .left),
+      (
+        rw (store-row .ensures .after) (omega (arith, start .pre .1 .0, store-row .kept, if4 .left, head .is (start .args .capacities) .inside)),
+        start .pre .1 .1,
+      ),
+    )
+
+read-value-returns-7 : (t : ℕ) → read-value-lts.Need-returns-7 (read-value-known t) (read-value-at t) read-value.Post
+unfolding contextOf
+read-value-returns-7 t c =
+    let at-read-chunk = c .before .before .before .before in
+    let if7 = at-read-chunk .before .before .before .if7 in
+    let at-store-row = at-read-chunk .before .before .before .before .before .before .before in
+    let a = at-store-row .before .before .before .a in
+    let at-read-head = at-store-row .before .before .before .before .before in
+    let class-of = at-read-head .before .class-of in
+    let if5 = at-read-head .before .before .if5 in
+    let if4 = at-read-head .before .before .before .if4 in
+    let at-if3 = at-read-head .before .before .before .before .before .before in
+    let if2 = at-if3 .before .if2 in
+    let if1 = at-if3 .before .before .before .if1 in
+    let args = at-if3 .before .before .before .before .before .before .before .before .before .args in
+    let tag = getD (args .bytes .now) (args .state .at) 0 in
+    let head = row-of (a .given .1) (rw (class-of .ensures) at (at-read-head .read-head .ensures)) in
+    did-same (value-shape _ _ _ _ _ (if1 .left) (if2 .left) _ (at-if3 .if3 .left) (if4 .left))
+    (did-shape _ _ _ _ _ tag (shape tag) refl (no-template tag (if2 .left) (if5 .left)) (args .state .at + 1) head (at-store-row .store-row .ensures)
+    (rw (under-function _ _ tag (a .given .0 .1 .1 .1 .1 .0) (if7 .taken))
+    (did-gap-one _ _ _ (function-count _ _ _ (head .told) (if7 .taken)) (at-read-chunk .read-chunk .ensures))))
+
 read-value-read-under-requires : (t : ℕ) → read-value-lts.Need-read-under-requires (read-value-known t) (read-value-at t) read-value.Post
 read-value-read-under-requires t c κs =
-    let at-store-row = c .before .before .before .before .before in
+    let at-store-row = c .before .before .before .before .before .before in
     let store-row = at-store-row .store-row in
     let a = at-store-row .before .before .before .a in
     let at-read-head = at-store-row .before .before .before .before .before in
@@ -109,15 +150,15 @@ read-value-read-under-requires t c κs =
       omega (arith, start .pre .0, at-if3 .if3 .left),
       (
         rw (store-row .ensures .after) (omega (arith, start .pre .1 .0, store-row .kept, if4 .left, head .is (start .args .capacities) .inside)),
-        (start .pre .1 .1, (if2 .left, function-count _ _ _ (head .told), if5 .left)),
+        (start .pre .1 .1, (if2 .left, c .before .before .if7 .left, if5 .left)),
       ),
     )
 
-read-value-returns-7 : (t : ℕ) → read-value-lts.Need-returns-7 (read-value-known t) (read-value-at t) read-value.Post
+read-value-returns-8 : (t : ℕ) → read-value-lts.Need-returns-8 (read-value-known t) (read-value-at t) read-value.Post
 unfolding contextOf
-read-value-returns-7 t c =
+read-value-returns-8 t c =
     let at-read-under = c .before .before .before .before in
-    let at-store-row = at-read-under .before .before .before .before .before .before in
+    let at-store-row = at-read-under .before .before .before .before .before .before .before in
     let a = at-store-row .before .before .before .a in
     let at-read-head = at-store-row .before .before .before .before .before in
     let class-of = at-read-head .before .class-of in
@@ -133,9 +174,9 @@ read-value-returns-7 t c =
     (row-of (a .given .1) (rw (class-of .ensures) at (at-read-head .read-head .ensures))) (at-store-row .store-row .ensures)
     (at-read-under .read-under .ensures))
 
-read-value-returns-8 : (t : ℕ) → read-value-lts.Need-returns-8 (read-value-known t) (read-value-at t) read-value.Post
+read-value-returns-9 : (t : ℕ) → read-value-lts.Need-returns-9 (read-value-known t) (read-value-at t) read-value.Post
 unfolding contextOf
-read-value-returns-8 t c =
+read-value-returns-9 t c =
     let at-class-of = c .before .before .before .before in
     let if5 = at-class-of .before .if5 in
     let if4 = at-class-of .before .before .if4 in
@@ -174,9 +215,13 @@ read-value-meets t = read-value-lts.spec (read-value-known t) (read-value-at t)
     (read-value-store-row-requires t)
     (λ c. search needs)
     (read-value-returns-6 t)
+    (read-value-read-chunk-requires t)
+    (λ c. search needs)
+    (λ c. search needs)
+    (read-value-returns-7 t)
     (read-value-read-under-requires t)
     (λ c. search needs)
     (λ c. search needs)
     (λ c. search needs)
-    (read-value-returns-7 t)
     (read-value-returns-8 t)
+    (read-value-returns-9 t)
