@@ -24,7 +24,7 @@ use Rattle.read_values.specs.Did.{Fit, context}
 use Rattle.read_values.specs.State.{stateOf}
 use Rattle.read_values.specs.Under.{chunkRow, fieldRow}
 use Rattle.read_values.specs.declared.State.{State}
-use Rattle.read_values.proofs.Tags.{by-table, every}
+use Rattle.key_test.specs.Laws.Tags.{by-table, every}
 use Rattle.key_test.specs.Laws.Entries.{KeyNode, keyValue}
 
 ---- a value that was read has the tag of its shape

@@ -45,13 +45,10 @@ pub fn second_word(tag: u64) -> u64
     digit(tag, 0x1111_1113_3322_2221, 0x1111_1222_2222_2233, 0x133)
 }
 
-// What is under the row. Most rows have a low tag, and nothing under them.
+// What is under the row.
 pub fn under_form(tag: u64) -> u64
     ensures { λ r. ⌜ r ≡ underForm tag ⌝ }
 {
-    if tag < 7 {
-        return 0;
-    }
     digit(tag, 0x3222_1110_1000_0000, 0x0000_0000_0000_0402, 0x012)
 }
 
