@@ -15,15 +15,28 @@ pub record State : Type 0 where
 abbrev pub start : List ℕ → State
 start bytes = record { rest = bytes; place = 0; rows = 0; spans = 0 }
 
+-- a state with another value of one field: every other state is made by these, and names no field that it keeps
+abbrev pub setRest : List ℕ → State → State
+setRest x s = record { rest = x; place = s .place; rows = s .rows; spans = s .spans }
+
+abbrev pub setPlace : ℕ → State → State
+setPlace n s = record { rest = s .rest; place = n; rows = s .rows; spans = s .spans }
+
+abbrev pub setRows : ℕ → State → State
+setRows n s = record { rest = s .rest; place = s .place; rows = n; spans = s .spans }
+
+abbrev pub setSpans : ℕ → State → State
+setSpans n s = record { rest = s .rest; place = s .place; rows = s .rows; spans = n }
+
 -- the state n bytes, a row, n spans further on
 abbrev pub advanced : ℕ → State → State
-advanced n s = record { rest = drop n (s .rest); place = s .place + n; rows = s .rows; spans = s .spans }
+advanced n s = setPlace (s .place + n) (setRest (drop n (s .rest)) s)
 
 abbrev pub withRow : State → State
-withRow s = record { rest = s .rest; place = s .place; rows = s .rows + 1; spans = s .spans }
+withRow s = setRows (s .rows + 1) s
 
 abbrev pub withSpans : ℕ → State → State
-withSpans n s = record { rest = s .rest; place = s .place; rows = s .rows; spans = s .spans + n }
+withSpans n s = setSpans (s .spans + n) s
 
 pub data Result (A : Type 0) : Type 0 where
   ok : A → State → Result A

@@ -104,7 +104,8 @@ module _ (store : List ℕ) where
   scanShape r g t (withChunk kinds) = scanItems kinds >>= λ is. finishRow (unusedWords (withChunk kinds)) (g t (forgetItems is)) >> readMany 1 (scanUntagged r 32 (ItemKind.code ∷ []) values) >>= λ ts. pure (nodeOf t is ts)
   scanShape r g t (withFields kinds) = scanItems kinds >>= λ is. nextWord >>= λ n. finishRow (unusedWords (withFields kinds)) (g t (forgetItems is)) >> readMany n (scanUntagged r 33
       (ItemKind.string ∷ []) oneValue) >>= λ ts. pure (nodeOf t is ts)
-  scanShape r g t (withTemplate kinds) = scanItems kinds >>= λ is. nextWord >>= λ n. finishRow (unusedWords (withTemplate kinds)) (g t (forgetItems is)) >> r isFunction >>= λ f. readMany n (r anyRow) >>= λ ts. pure (nodeOf t is (cons f ts))
+  scanShape r g t (withTemplate kinds) =
+      scanItems kinds >>= λ is. nextWord >>= λ n. finishRow (unusedWords (withTemplate kinds)) (g t (forgetItems is)) >> r isFunction >>= λ f. readMany n (r anyRow) >>= λ ts. pure (nodeOf t is (cons f ts))
 
   unfoldable pub scanValue : ℕ → RowScan
   scanValue zero g = nextWord >>= λ t. rowMust false >> pure (nodeOf t [] nil)

@@ -3,13 +3,14 @@ use mathlib.Core.List.{List}
 use mathlib.Core.Path.{_≡_}
 use Prim.Native.Nat.{ℕ, _≤_}
 use lib.ListN.{drop, length}
-use Rattle.payload.specs.Reader.{State, Result, Reader, ok, refused}
+use Rattle.payload.specs.Moved.{startAt}
+use Rattle.payload.specs.Reader.{State, Result, Reader, ok, refused, setRows, setSpans}
 use Rattle.read_items.specs.declared.Number.{Number}
 use Rattle.read_items.specs.declared.Number.the-variants.{Read, Refused}
 
 -- the reader's state at a place of p, after so many rows and spans
 abbrev pub stateAt : List ℕ → ℕ → ℕ → ℕ → State
-stateAt p at rows spans = record { rest = drop at p; place = at; rows = rows; spans = spans }
+stateAt p at rows spans = setSpans spans (setRows rows (startAt at p))
 
 -- what was read and the place after it, or a refusal's number and place
 pub data Answer (A : Type 0) : Type 0 where

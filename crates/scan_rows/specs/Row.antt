@@ -6,7 +6,8 @@ use lib.Dec.{eqb, leb, ltb}
 use lib.ListN.{drop, getD, length}
 use Rattle.payload.specs.Choice.{_and_}
 use Rattle.payload.specs.Numbers.{fitsKind}
-use Rattle.payload.specs.Reader.{Part, State}
+use Rattle.payload.specs.Moved.{startAt}
+use Rattle.payload.specs.Reader.{Part, State, setRows}
 use Rattle.payload.specs.Rows.{kindWidth, rowWidth}
 use Rattle.payload.specs.Shapes.{ItemKind, isKeyTag, kindsOf, shape}
 use Rattle.payload.specs.Sound.{partAt}
@@ -31,10 +32,10 @@ countAt rows i = wordAt rows i (countWord (tagAt rows i))
 
 -- before row i, and before its word k
 abbrev pub atRow : List ℕ → ℕ → State
-atRow rows i = record { rest = drop (rowWidth * i) rows; place = rowWidth * i; rows = i; spans = 0 }
+atRow rows i = setRows i (startAt (rowWidth * i) rows)
 
 abbrev pub atWord : List ℕ → ℕ → ℕ → State
-atWord rows i k = record { rest = drop (rowWidth * i + k) rows; place = rowWidth * i + k; rows = i; spans = 0 }
+atWord rows i k = setRows i (startAt (rowWidth * i + k) rows)
 
 ---- the items of a row
 

@@ -328,7 +328,8 @@ sound-given-item ss (nativeName l) p q h = h
 sound-given-item ss (recordName l) p q h = h
 sound-given-item ss (code l rs) p q h = and-both (eq-eqb _ _ (length-take-le (length (l .bytes)) ss q)) (small-take (length (l .bytes)) ss p)
 
-sound-given-items : (ss : List Span) (is : List (Item Part)) → smallSpans ss ≡ true → spanItems (forgetItems is) ≤ length ss → allOf itemRowSound (forgetItems is) ≡ true → allOf itemSound (forgetItems (giveItems ss is)) ≡ true
+sound-given-items : (ss : List Span) (is : List (Item Part)) → smallSpans ss ≡ true → spanItems (forgetItems is) ≤ length ss → allOf itemRowSound (forgetItems is) ≡ true
+    → allOf itemSound (forgetItems (giveItems ss is)) ≡ true
 unfolding giveItems spanItems forgetItems allOf
 sound-given-items ss [] p q h = refl
 sound-given-items ss (i ∷ is) p q h = and-both (sound-given-item ss i p (omega arith) (and-left _ _ h))

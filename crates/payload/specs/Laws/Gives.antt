@@ -8,14 +8,14 @@ use native.Mathlib.Omega.{arith}
 use lib.ListN.{drop, length, length-append, take}
 use lib.Seq.{drop-append-seam, drop-drop, take-append-seam}
 use borrow.Author.Tests.{le-leb, lt-ltb}
-use Rattle.payload.specs.Reader.{Part, Reader, Result, State, _>>=_, _>>_, advanced, andThen, body, byte, firstByte, here, must, newRow, newSpans, ok, pure, withRow, withSpans}
+use Rattle.payload.specs.Reader.{Part, Reader, Result, State, _>>=_, _>>_, advanced, andThen, body, byte, firstByte, here, must, newRow, newSpans, ok, pure, setRows, setSpans, withRow, withSpans}
 use Rattle.payload.specs.declared.Capacities.{Capacities}
 
 ---- states further on
 
 -- n bytes, k rows and m spans further on
 unfoldable pub after : ℕ → ℕ → ℕ → State → State
-after n k m s = record { rest = drop n (s .rest); place = s .place + n; rows = s .rows + k; spans = s .spans + m }
+after n k m s = setSpans (s .spans + m) (setRows (s .rows + k) (advanced n s))
 
 pub after-none : (s : State) → after 0 0 0 s ≡ s
 unfolding after

@@ -68,7 +68,8 @@ module _ (c : Capacities) (p : List ℕ) where
   step-two : (s s′ s″ : State) (Q : ℕ → ℕ → Type 0) (k m : ℕ) → s′ .rows ≡ s .rows + k → s′ .spans ≡ s .spans + m → Step s′ s″ (λ k′ m′. Q (k + k′) (m + m′)) → Step s s″ Q
   step-two s s′ s″ Q k m hr hs w = record { k = k + w .k; m = m + w .m; inv = w .inv; by-rows = omega (arith, w .by-rows); by-spans = omega (arith, w .by-spans); holds = w .holds }
 
-  module _ {A B : Type 0} (r : Reader A) (f : A → Reader B) (P : A → ℕ → ℕ → Type 0) (Q : B → ℕ → ℕ → Type 0) (g : Keeps r P) (h : (a : A) (k m : ℕ) → P a k m → Keeps (f a) (λ b k′ m′. Q b (k + k′) (m + m′))) where
+  module _ {A B : Type 0} (r : Reader A) (f : A → Reader B) (P : A → ℕ → ℕ → Type 0) (Q : B → ℕ → ℕ → Type 0) (g : Keeps r P)
+      (h : (a : A) (k m : ℕ) → P a k m → Keeps (f a) (λ b k′ m′. Q b (k + k′) (m + m′))) where
     bind-one : (s : State) (b : B) (s″ : State) (a : A) (s′ : State) → Step s s′ (P a) → f a s′ ≡ ok b s″ → Step s s″ (Q b)
     bind-one s b s″ a s′ w e = step-two s s′ s″ (Q b) (w .k) (w .m) (w .by-rows) (w .by-spans) (h a (w .k) (w .m) (w .holds) .run s′ b s″ (w .inv) e)
 
@@ -202,7 +203,8 @@ module _ (c : Capacities) (p : List ℕ) where
   unfolding body
   keeps-body n = record { run = λ s b s′ i e. go s b s′ i (tested (leb n (length (s .rest))) 1 (s .place) s _ b s′ e) }
     where
-      go : (s : State) (b : Part) (s′ : State) → Inv s → (leb n (length (s .rest)) ≡ true) × (_≡_ {A = Result Part} (ok (record { offset = s .place; bytes = take n (s .rest) }) (advanced n s)) (ok b s′)) → Step s s′ (Plain (BodyIs n) b)
+      go : (s : State) (b : Part) (s′ : State) → Inv s → (leb n (length (s .rest)) ≡ true) × (_≡_ {A = Result Part} (ok (record { offset = s .place; bytes = take n (s .rest) }) (advanced n s)) (ok b s′))
+          → Step s s′ (Plain (BodyIs n) b)
       go s b s′ i e = let h = leb-true n (length (s .rest)) (e .0) in step-advanced (Plain (BodyIs n)) s n _ b s′ i h (nothing, body-true s n i h) (e .1)
 
   pub keeps-then : {A B : Type 0} {r : Reader A} {r′ : Reader B} {P : A → ℕ → ℕ → Type 0} {Q : B → ℕ → ℕ → Type 0}

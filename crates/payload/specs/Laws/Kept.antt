@@ -128,7 +128,8 @@ module _ (c : Capacities) (p : List ℕ) where
   kept-runs : (n : ℕ) (s e : ℤ) → K (readRuns n s e) (Plain c p (λ rs. Unit {0}))
   unfolding readRuns
   kept-runs zero s e = keeps-value c p [] (λ rs. Unit {0}) tt
-  kept-runs (suc n) s e = keeps-free c p (kept-position s) (λ s′ w. keeps-free c p (kept-position e) (λ e′ w. keeps-free c p (keeps-varint c p) (λ k w. keeps-free c p (kept-runs n s′ e′) (λ rs w. keeps-value c p _ (λ rs. Unit {0}) tt))))
+  kept-runs (suc n) s e =
+      keeps-free c p (kept-position s) (λ s′ w. keeps-free c p (kept-position e) (λ e′ w. keeps-free c p (keeps-varint c p) (λ k w. keeps-free c p (kept-runs n s′ e′) (λ rs w. keeps-value c p _ (λ rs. Unit {0}) tt))))
 
   record CodeIs (x : Code) (k m : ℕ) : Type 0 where
     code-rows : k ≡ 0
@@ -266,7 +267,8 @@ module _ (c : Capacities) (p : List ℕ) where
       kept-pairs : (d n : ℕ) (seen : List (List ℕ)) (r : Reader (Node Part)) → K r (NodeIs isValueTag d) → K (readPairs n seen r) (TreesAre d (λ rs. allValues rs and distinctPairs seen rs))
       unfolding readPairs
       kept-pairs d zero seen r R = keeps-pure c p nil _ (nil-are d (λ rs. allValues rs and distinctPairs seen rs) (unfold allTags distinctPairs _and_ in refl))
-      kept-pairs d (suc n) seen r R = keeps-at c p (λ q. keeps-bind c p R (λ u k m z. keeps-bind c p R (λ v a b w. keeps-then c p (kept-key q seen u) (λ o i j x. keeps-bind c p (kept-pairs d n (nodeKey u ∷ seen) r R) (λ ts k′ m′ y.
+      kept-pairs d (suc n) seen r R =
+          keeps-at c p (λ q. keeps-bind c p R (λ u k m z. keeps-bind c p R (λ v a b w. keeps-then c p (kept-key q seen u) (λ o i j x. keeps-bind c p (kept-pairs d n (nodeKey u ∷ seen) r R) (λ ts k′ m′ y.
           keeps-pure c p (cons u (cons v ts)) (λ g k″ m″. TreesAre d (λ rs. allValues rs and distinctPairs seen rs) g (k + (a + (i + (k′ + k″)))) (m + (b + (j + (m′ + m″)))))
           (put-are _ u (cons v ts) k m (a + k′) (b + m′) _ _ z (put-are (λ rs. true) v ts a b k′ m′ _ _ w y refl refl refl)
           (put-pairs seen u v ts (node-tag isValueTag d u k m z) (x .1) (node-tag isValueTag d v a b w) (y .trees-test)) (omega (arith, x .0 .no-rows)) (omega (arith, x .0 .no-spans))))))))
@@ -284,7 +286,8 @@ module _ (c : Capacities) (p : List ℕ) where
       kept-kids d r R keys = keeps-free c p (keeps-varint c p) (λ n w. kept-keys d n [] r R)
       kept-kids d r R pairs = keeps-free c p (keeps-varint c p) (λ n w. kept-pairs d n [] r R)
 
-      kept-untagged : {h : ℕ → Bool} {d d′ : ℕ} (r : Reader (Node Part)) → K r (NodeIs isValueTag d′) → (t : ℕ) (kinds : List ItemKind) (kk : Kids) → Row h d d′ t (withKids kinds kk) → K (readUntagged e r t kinds kk) (NodeIs h d)
+      kept-untagged : {h : ℕ → Bool} {d d′ : ℕ} (r : Reader (Node Part)) → K r (NodeIs isValueTag d′) → (t : ℕ) (kinds : List ItemKind) (kk : Kids) → Row h d d′ t (withKids kinds kk)
+          → K (readUntagged e r t kinds kk) (NodeIs h d)
       unfolding readUntagged rowRule
       kept-untagged {h} {d} {d′} r R t kinds kk w = keeps-then c p (keeps-row c p) (λ u i j x. keeps-bind c p (kept-items kinds) (λ is k m z. keeps-bind c p (kept-kids d′ r R kk) (λ ts k′ m′ y.
           keeps-pure c p (nodeOf t is ts) (λ g k″ m″. NodeIs h d g (i + (k + (k′ + k″))) (j + (m + (m′ + m″))))
@@ -296,7 +299,8 @@ module _ (c : Capacities) (p : List ℕ) where
       kept-shape {h} {d} {d′} r R t (withKids kinds kk) w = keeps-bind c p (kept-items kinds) (λ is k m z. keeps-bind c p (kept-kids d′ r R kk) (λ ts k′ m′ y.
           keeps-pure c p (nodeOf t is ts) (λ g k″ m″. NodeIs h d g (suc (k + (k′ + k″))) (m + (m′ + m″)))
           (row-are w is ts k m k′ m′ _ _ z y (and-both (z .items-kinds) (y .trees-test)) (omega (arith, z .items-rows)) (omega arith))))
-      kept-shape {h} {d} {d′} r R t (withChunk kinds) w = keeps-bind c p (kept-items kinds) (λ is k m z. keeps-bind c p (kept-one (isTag 32) d′ _ (kept-untagged r R 32 (ItemKind.code ∷ []) values (chunk-row d′))) (λ ts k′ m′ y.
+      kept-shape {h} {d} {d′} r R t (withChunk kinds) w =
+          keeps-bind c p (kept-items kinds) (λ is k m z. keeps-bind c p (kept-one (isTag 32) d′ _ (kept-untagged r R 32 (ItemKind.code ∷ []) values (chunk-row d′))) (λ ts k′ m′ y.
           keeps-pure c p (nodeOf t is ts) (λ g k″ m″. NodeIs h d g (suc (k + (k′ + k″))) (m + (m′ + m″)))
           (row-are w is ts k m k′ m′ _ _ z y (and-both (z .items-kinds) (y .trees-test)) (omega (arith, z .items-rows)) (omega arith))))
       kept-shape {h} {d} {d′} r R t (withFields kinds) w = keeps-bind c p (kept-items kinds) (λ is k m z. keeps-bind c p (keeps-varint c p) (λ n i j x.

@@ -81,7 +81,8 @@ module _ (c d : Capacities) (h : Larger c d) where
 min-more : (a b n : ℕ) → a ≤ b → min a n ≤ min b n
 min-more a b n h = omega arith
 
-pub larger-loans : (rows spans starts pool rows′ spans′ starts′ pool′ : ℕ) → rows ≤ rows′ → spans ≤ spans′ → starts ≤ starts′ → pool ≤ pool′ → Larger (capacitiesOf rows spans starts pool) (capacitiesOf rows′ spans′ starts′ pool′)
+pub larger-loans : (rows spans starts pool rows′ spans′ starts′ pool′ : ℕ) → rows ≤ rows′ → spans ≤ spans′ → starts ≤ starts′ → pool ≤ pool′
+    → Larger (capacitiesOf rows spans starts pool) (capacitiesOf rows′ spans′ starts′ pool′)
 unfolding capacitiesOf
 larger-loans rows spans starts pool rows′ spans′ starts′ pool′ hr hs ht hp = record {
   more-rows = min-more (rows / rowWidth) (rows′ / rowWidth) (limits .rows) (omega arith);

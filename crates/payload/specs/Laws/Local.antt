@@ -89,7 +89,8 @@ took-none : {A : Type 0} (r : Reader A) (s : State) (a : A) (s′ : State) → s
 took-none r s a s′ h l g = record { bytes = []; split = h; far = sym l ∙ sym (add-zero (s .place)); anew = g }
 
 -- n bytes
-took-some : {A : Type 0} (r : Reader A) (s : State) (a : A) (n : ℕ) → n ≤ length (s .rest) → ((x : List ℕ) → r (withRest (take n (s .rest) ++ x) s) ≡ ok a (advanced n (withRest (take n (s .rest) ++ x) s))) → Took r s a (advanced n s)
+took-some : {A : Type 0} (r : Reader A) (s : State) (a : A) (n : ℕ) → n ≤ length (s .rest) → ((x : List ℕ) → r (withRest (take n (s .rest) ++ x) s) ≡ ok a (advanced n (withRest (take n (s .rest) ++ x) s)))
+    → Took r s a (advanced n s)
 took-some r s a n h g = let l = length-take-le n (s .rest) h in record {
   bytes = take n (s .rest);
   split = sym (take-append-drop n (s .rest));

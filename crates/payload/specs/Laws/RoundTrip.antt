@@ -172,7 +172,8 @@ module _ (e : Context) (l : List (List ℕ)) (pool-is : map (λ (x : Part). x .b
   two-more : (n : ℕ) → suc (suc n) / 2 ≡ suc (n / 2)
   two-more n = omega arith
 
-  half-encs : (t : ℕ) (is : List (Item (List ℕ))) (ks : Trees (List ℕ)) (t′ : ℕ) (is′ : List (Item (List ℕ))) (ks′ ts : Trees (List ℕ)) → suc (length (writeTrees l ts) / 2) ≡ length (writeTrees l (node t is ks (node t′ is′ ks′ ts))) / 2
+  half-encs : (t : ℕ) (is : List (Item (List ℕ))) (ks : Trees (List ℕ)) (t′ : ℕ) (is′ : List (Item (List ℕ))) (ks′ ts : Trees (List ℕ))
+      → suc (length (writeTrees l ts) / 2) ≡ length (writeTrees l (node t is ks (node t′ is′ ks′ ts))) / 2
   unfolding writeTrees
   half-encs t is ks t′ is′ ks′ ts = sym (two-more (length (writeTrees l ts)))
 
@@ -184,7 +185,8 @@ module _ (e : Context) (l : List (List ℕ)) (pool-is : map (λ (x : Part). x .b
   unfolding allTags roots
   value₂ t is ks ts q = and-right _ _ q
 
-  module _ (seen : List (List ℕ)) (t : ℕ) (is : List (Item (List ℕ))) (ks : Trees (List ℕ)) (t′ : ℕ) (is′ : List (Item (List ℕ))) (ks′ ts : Trees (List ℕ)) (w : distinctPairs seen (roots (node t is ks (node t′ is′ ks′ ts))) ≡ true) where
+  module _ (seen : List (List ℕ)) (t : ℕ) (is : List (Item (List ℕ))) (ks : Trees (List ℕ)) (t′ : ℕ) (is′ : List (Item (List ℕ))) (ks′ ts : Trees (List ℕ))
+      (w : distinctPairs seen (roots (node t is ks (node t′ is′ ks′ ts))) ≡ true) where
     pair₁ : isKeyTag t ≡ true
     unfolding distinctPairs roots
     pair₁ = and-left _ _ w
@@ -198,7 +200,8 @@ module _ (e : Context) (l : List (List ℕ)) (pool-is : map (λ (x : Part). x .b
     pair₃ = and-right _ _ (and-right _ _ w)
 
   -- one pair, before the pairs that follow
-  gives-pair : (d n : ℕ) (r : Reader (Node Part)) → Reads isValueTag d r → (seen : List (List ℕ)) (t : ℕ) (is : List (Item (List ℕ))) (ks : Trees (List ℕ)) (t′ : ℕ) (is′ : List (Item (List ℕ))) (ks′ ts : Trees (List ℕ))
+  gives-pair : (d n : ℕ) (r : Reader (Node Part)) → Reads isValueTag d r
+      → (seen : List (List ℕ)) (t : ℕ) (is : List (Item (List ℕ))) (ks : Trees (List ℕ)) (t′ : ℕ) (is′ : List (Item (List ℕ))) (ks′ ts : Trees (List ℕ))
       → isValueTag t ≡ true → obeyRules d (node t is ks nil) ≡ true → allItems readable (node t is ks nil) ≡ true
       → isValueTag t′ ≡ true → obeyRules d (node t′ is′ ks′ nil) ≡ true → allItems readable (node t′ is′ ks′ nil) ≡ true
       → isKeyTag t ≡ true → not (isIn (keyOf t is) seen) ≡ true

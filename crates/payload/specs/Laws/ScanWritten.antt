@@ -199,7 +199,8 @@ module _ (c : Capacities) (store : List ℕ) where
   unfolding rootCount
   half-count t is ks t′ is′ ks′ ts = omega arith
 
-  module _ (seen : List (List ℕ)) (t : ℕ) (is : List (Item Part)) (ks : Trees Part) (t′ : ℕ) (is′ : List (Item Part)) (ks′ ts : Trees Part) (w : distinctPairs seen (roots (forgetTrees (node t is ks (node t′ is′ ks′ ts)))) ≡ true) where
+  module _ (seen : List (List ℕ)) (t : ℕ) (is : List (Item Part)) (ks : Trees Part) (t′ : ℕ) (is′ : List (Item Part)) (ks′ ts : Trees Part)
+      (w : distinctPairs seen (roots (forgetTrees (node t is ks (node t′ is′ ks′ ts)))) ≡ true) where
     pair₁ : newKey seen t (forgetItems (withoutSpansItems is)) ≡ true
     unfolding distinctPairs roots forgetTrees
     pair₁ = rw (key-bare t is) (and-both (and-left _ _ w) (and-left _ _ (and-right _ _ w)))

@@ -21,7 +21,7 @@ use Rattle.payload.specs.Laws.RoundTrip.{sameKind-eq}
 use Rattle.payload.specs.Laws.Rules.{Root, SoundScript, itemSound, lineRule, obeyRules, roots, rowRule, sameKinds, withoutSpans, withoutSpansItems}
 use Rattle.payload.specs.Laws.ScanWritten.{InStore, InTrees, kind-bytes, scan-flat}
 use Rattle.payload.specs.Laws.Takes.{itemRowSound, scan-took}
-use Rattle.payload.specs.Reader.{Part, Reader, Result, State, _>>=_, _>>_, andThen, must, ok, pure, start}
+use Rattle.payload.specs.Reader.{Part, Reader, Result, State, _>>=_, _>>_, andThen, must, ok, pure, setPlace, setRows, start}
 use Rattle.payload.specs.declared.Capacities.{Capacities}
 use Rattle.payload.specs.Rows.{countWords, itemWords, itemsWords, kidsCountWords, kindWidth, kindsWidth, partWords, rootCount, rowTable, rowWidth, rowWords, spanTable, unusedWords}
 use Rattle.payload.specs.Scan.{rowMust, scanOuter}
@@ -341,9 +341,9 @@ scan-single c store n e a b d = rw e (gives-as (scan-flat c store (n .items) (n 
 
 -- a run over sound tables ends after all rows
 abbrev pub ended : Tables → Script Part → State
-ended T u = record { rest = []; place = length (T .rows); rows = size (single (u .outer)); spans = 0 }
+ended T u = setRows (size (single (u .outer))) (setPlace (length (T .rows)) (start []))
 
-after-all : (rows : List ℕ) (k : ℕ) → after (length rows) k 0 (start rows) ≡ record { rest = []; place = length rows; rows = k; spans = 0 }
+after-all : (rows : List ℕ) (k : ℕ) → after (length rows) k 0 (start rows) ≡ setRows k (setPlace (length rows) (start []))
 unfolding after
 after-all rows k = rw (drop-length rows, zero-add (length rows), zero-add k)
 

@@ -48,7 +48,8 @@ module _ {A B : Type 0} (r : Reader A) (f : A → Reader B) (P : A → List ℕ 
   bind-all : (s : State) (b : B) (s″ : State) → ((a : A) × (s′ : State) × (r s ≡ ok a s′) × (f a s′ ≡ ok b s″)) → Took s s″ (Q b)
   bind-all s b s″ w = bind-one s b s″ (w .0) (w .1) (g .run s (w .0) (w .1) (w .2)) (w .3)
 
-takes-bind : {A B : Type 0} {r : Reader A} {f : A → Reader B} {P : A → List ℕ → Type 0} {Q : B → List ℕ → Type 0} → Takes r P → ((a : A) (ws : List ℕ) → P a ws → Takes (f a) (λ b vs. Q b (ws ++ vs))) → Takes (r >>= f) Q
+takes-bind : {A B : Type 0} {r : Reader A} {f : A → Reader B} {P : A → List ℕ → Type 0} {Q : B → List ℕ → Type 0} → Takes r P → ((a : A) (ws : List ℕ) → P a ws → Takes (f a) (λ b vs. Q b (ws ++ vs)))
+    → Takes (r >>= f) Q
 unfolding _>>=_
 takes-bind {r} {f} {P} {Q} g h = record { run = λ s b s″ e. bind-all r f P Q g h s b s″ (invert (r s) f b s″ e) }
 
@@ -74,7 +75,8 @@ takes-next : {B : Type 0} (r : Reader B) {Q : B → List ℕ → Type 0} → Tak
 unfolding endRow _>>_ andThen
 takes-next r h = record { run = λ s a s′ e. let w = h .run (withRow s) a s′ e in record { ws = w .ws; split = w .split; holds = w .holds } }
 
-takes-then : {A B : Type 0} {r : Reader A} {r′ : Reader B} {P : A → List ℕ → Type 0} {Q : B → List ℕ → Type 0} → Takes r P → ((a : A) (ws : List ℕ) → P a ws → Takes r′ (λ b vs. Q b (ws ++ vs))) → Takes (r >> r′) Q
+takes-then : {A B : Type 0} {r : Reader A} {r′ : Reader B} {P : A → List ℕ → Type 0} {Q : B → List ℕ → Type 0} → Takes r P → ((a : A) (ws : List ℕ) → P a ws → Takes r′ (λ b vs. Q b (ws ++ vs)))
+    → Takes (r >> r′) Q
 unfolding _>>_ _>>=_
 takes-then {r} {r′} {P} {Q} g h = takes-bind {r = r} {f = λ a. r′} {P = P} {Q = Q} g h
 
@@ -205,7 +207,8 @@ module _ (store : List ℕ) where
   abbrev ScanT : ℕ → RowScan → Type 0
   ScanT d r = (g : Test) → Takes (r g) (NodeT isValueTag g d)
 
-  takes-times : (h : ℕ → Bool) (g : Test) (d : ℕ) (r : Reader (Node Part)) → Takes r (NodeT h g d) → (n : ℕ) → Takes (readMany n r) (λ ts ws. TreesT d ts ws × (allTags h (roots (forgetTrees ts)) ≡ true) × (rootCount ts ≡ n))
+  takes-times : (h : ℕ → Bool) (g : Test) (d : ℕ) (r : Reader (Node Part)) → Takes r (NodeT h g d) → (n : ℕ)
+      → Takes (readMany n r) (λ ts ws. TreesT d ts ws × (allTags h (roots (forgetTrees ts)) ≡ true) × (rootCount ts ≡ n))
   unfolding readMany
   takes-times h g d r R zero = takes-pure nil (λ ts ws. TreesT d ts ws × (allTags h (roots (forgetTrees ts)) ≡ true) × (rootCount ts ≡ 0)) (nil-T d, unfold allTags roots forgetTrees in refl, unfold rootCount in refl)
   takes-times h g d r R (suc n) = takes-bind R (λ u ws a. takes-bind (takes-times h g d r R n) (λ ts vs b.

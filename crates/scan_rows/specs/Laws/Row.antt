@@ -9,7 +9,8 @@ use lib.ListN.{drop, drop-of-length-le, length}
 use lib.Seq.{drop-cons}
 use borrow.Author.Tests.{eqb-true, leb-true, ltb-false, ltb-true}
 use Rattle.payload.specs.Choice.{_and_}
-use Rattle.payload.specs.Reader.{Part, Result, _>>=_, _>>_, andThen, ok, pure, refused, withRow}
+use Rattle.payload.specs.Moved.{startAt}
+use Rattle.payload.specs.Reader.{Part, Result, _>>=_, _>>_, andThen, ok, pure, refused, setPlace, setRows, start, withRow}
 use Rattle.payload.specs.Reading.{readMany}
 use Rattle.payload.specs.Rows.{countWords, kidsCountWords, kindWidth, kindsWidth, rowWidth, unusedWords}
 use Rattle.payload.specs.Scan.{RowScan, Test, anyRow, endRow, finishRow, firstWord, isFunction, nextWord, scanCount, scanItem, scanItems, scanKids, scanPart, scanShape, scanString, scanUntagged, scanValue, scanWithKids, zeroWords}
@@ -31,17 +32,17 @@ module _ (rows : List ℕ) where
   next-word i k h =
       let e : suc (rowWidth * i + k) ≡ rowWidth * i + (k + 1) = omega arith in
       let f : rowWidth * i + k + 1 ≡ rowWidth * i + (k + 1) = omega arith in
-      rw (drop-cons rows (rowWidth * i + k) 0 h) (λ t. ok (wordAt rows i k) (record { rest = drop (e t) rows; place = f t; rows = i; spans = 0 }))
+      rw (drop-cons rows (rowWidth * i + k) 0 h) (λ t. ok (wordAt rows i k) (setRows i (setPlace (f t) (start (drop (e t) rows)))))
 
   pub no-word : (i : ℕ) → length rows ≤ rowWidth * i → nextWord (atRow rows i) ≡ refused 17 i
   unfolding nextWord firstWord
   no-word i h = rw (drop-of-length-le rows h)
 
   pub row-start : (i : ℕ) → atRow rows i ≡ atWord rows i 0
-  row-start i = let e : rowWidth * i ≡ rowWidth * i + 0 = omega arith in λ t. record { rest = drop (e t) rows; place = e t; rows = i; spans = 0 }
+  row-start i = let e : rowWidth * i ≡ rowWidth * i + 0 = omega arith in λ t. setRows i (startAt (e t) rows)
 
   row-end : (i k : ℕ) → k ≡ rowWidth → withRow (atWord rows i k) ≡ atRow rows (i + 1)
-  row-end i k h = let e : rowWidth * i + k ≡ rowWidth * (i + 1) = omega arith in λ t. record { rest = drop (e t) rows; place = e t; rows = i + 1; spans = 0 }
+  row-end i k h = let e : rowWidth * i + k ≡ rowWidth * (i + 1) = omega arith in λ t. setRows (i + 1) (startAt (e t) rows)
 
   ---- unused words
 
