@@ -20,7 +20,7 @@ use Rattle.payload.specs.Shapes.{ItemKind, Kids, Shape, keys, noValue, o
 use Rattle.payload.specs.Sound.{give, giveItem, giveItems, spansOf}
 use Rattle.payload.specs.Spans.{Span, smallSpans}
 use Rattle.payload.specs.Tables.{spanWords}
-use Rattle.payload.specs.Trees.{Item, Trees, code, forgetItem, forgetItems, forgetTrees, keyOf, kindOf, nativeName, nil, node, number, recordName, size, spanCount, spanItem, spanItems, string}
+use Rattle.payload.specs.Trees.{Item, Trees, code, forgetItem, forgetItems, forgetTrees, keyOf, kindOf, nativeName, nil, node, number, recordName, spanCount, spanItem, spanItems, string}
 
 ---- a span table's words
 
@@ -88,11 +88,6 @@ pub row-table-without : (ts : Trees Part) → rowTable (withoutSpans ts) ≡ row
 unfolding rowTable withoutSpans rowWords
 row-table-without nil = refl
 row-table-without (node t is ks ts) = rw (items-words-without is, root-count-without ks, row-table-without ks, row-table-without ts)
-
-pub size-without : (ts : Trees Part) → size (withoutSpans ts) ≡ size ts
-unfolding size withoutSpans
-size-without nil = refl
-size-without (node t is ks ts) = rw (size-without ks, size-without ts)
 
 span-item-without : (i : Item Part) → spanItem (forgetItem (withoutSpansItem i)) ≡ spanItem (forgetItem i)
 unfolding spanItem forgetItem withoutSpansItem
@@ -198,15 +193,6 @@ same-given f e ss ts = sym (e (give ss ts)) ∙ ap f (without-given ss ts) ∙ e
 
 pub row-table-given : (ss : List Span) (ts : Trees Part) → rowTable (give ss ts) ≡ rowTable ts
 row-table-given = same-given rowTable row-table-without
-
-pub size-given : (ss : List Span) (ts : Trees Part) → size (give ss ts) ≡ size ts
-size-given = same-given size size-without
-
-pub root-count-given : (ss : List Span) (ts : Trees Part) → rootCount (give ss ts) ≡ rootCount ts
-root-count-given = same-given rootCount root-count-without
-
-pub span-count-given : (ss : List Span) (ts : Trees Part) → spanCount (forgetTrees (give ss ts)) ≡ spanCount (forgetTrees ts)
-span-count-given = same-given (λ ts. spanCount (forgetTrees ts)) span-count-without
 
 pub obey-given : (d : ℕ) (ss : List Span) (ts : Trees Part) → obeyRules d (forgetTrees (give ss ts)) ≡ obeyRules d (forgetTrees ts)
 obey-given d = same-given (λ ts. obeyRules d (forgetTrees ts)) (obey-without d)

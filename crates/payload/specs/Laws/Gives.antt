@@ -59,9 +59,6 @@ module _ {c : Capacities} where
   pub gives-fits : {A : Type 0} {r : Reader A} {bs : List ℕ} {k m : ℕ} {P : A → Type 0} → (k ≤ c .rows → m ≤ c .spans → Gives c r bs k m P) → Gives c r bs k m P
   gives-fits f = record { run = λ s t e hr hs. f (omega arith) (omega arith) .run s t e hr hs }
 
-  pub gives-so : {A : Type 0} {r : Reader A} {bs : List ℕ} {k m : ℕ} {P : A → Type 0} (Q : A → Type 0) → ((a : A) → P a → Q a) → Gives c r bs k m P → Gives c r bs k m Q
-  gives-so Q f g = record { run = λ s t e hr hs. let w = g .run s t e hr hs in (w .0, w .1, f (w .0) (w .2)) }
-
   pub gives-pure : {A : Type 0} (a : A) (P : A → Type 0) → P a → Gives c (pure a) [] 0 0 P
   unfolding pure
   gives-pure a P p = record { run = λ s t e hr hs. (a, ap (ok a) (sym (after-none s)), p) }

@@ -14,7 +14,6 @@ use Rattle.varint.specs.Laws.RoundTrip.{reads-within}
 use Rattle.varint.specs.Varint.{varintOf}
 use Rattle.varint.specs.declared.Varint.{Varint}
 use Rattle.varint.specs.declared.Varint.the-variants.{Number, Refused}
-use Rattle.payload.specs.Choice.{if_then_else_}
 use Rattle.payload.specs.Laws.ScanWritten.{InStore}
 use Rattle.payload.specs.Numbers.{afterVarint, varint}
 use Rattle.payload.specs.Reader.{Part, Reader, Result, State, _>>=_, _>>_, advanced, andThen, body, byte, firstByte, here, must, newRow, newSpans, ok, pure, refused, withRow, withSpans}
@@ -119,11 +118,6 @@ module _ (c : Capacities) (p : List ℕ) where
 
   pub keeps-at : {B : Type 0} {f : ℕ → Reader B} {Q : B → ℕ → ℕ → Type 0} → ((q : ℕ) → Keeps (f q) Q) → Keeps (here >>= f) Q
   keeps-at h = keeps-free keeps-here (λ q u. h q)
-
-  pub keeps-if : {A : Type 0} (b : Bool) (r r′ : Reader A) {P : A → ℕ → ℕ → Type 0} → (b ≡ true → Keeps r P) → (b ≡ false → Keeps r′ P) → Keeps (if_then_else_ b r r′) P
-  unfolding if_then_else_
-  keeps-if true r r′ f g = f refl
-  keeps-if false r r′ f g = g refl
 
   -- n bytes further on, where so many are left
   inv-advanced : (s : State) (n : ℕ) → Inv s → n ≤ length (s .rest) → Inv (advanced n s)
