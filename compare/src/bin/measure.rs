@@ -1,9 +1,9 @@
 //! Measures the port beside the Rust.
 
 use compare::arguments::{arguments, refuse};
-use compare::measure::{check, leaves, read, write};
+use compare::measure::{check, leaves, read, stack, write};
 
-const USAGE: &str = "measure leaves|read|write|check";
+const USAGE: &str = "measure leaves|read|write|check|stack";
 
 fn main() {
     let arguments = arguments(USAGE);
@@ -15,6 +15,7 @@ fn main() {
         "read" => read(arguments.seed),
         "write" => write(arguments.seed),
         "check" => check(arguments.seed),
+        "stack" => stack(),
         _ => refuse(USAGE),
     }
 }

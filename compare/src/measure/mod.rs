@@ -3,11 +3,13 @@
 mod lines;
 mod loads;
 mod payloads;
+mod stack;
 mod utf8;
 mod varints;
 mod writes;
 
 pub use payloads::{check, read};
+pub use stack::stack;
 use std::hint::black_box;
 use std::time::{Duration, Instant};
 pub use writes::write;

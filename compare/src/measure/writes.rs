@@ -4,29 +4,22 @@ use super::in_turn;
 use super::loads::{Load, growing, growing_of_few, strings_load};
 use crate::document::Program;
 use crate::ours;
-use std::collections::HashMap;
 
-/// With distinct strings the pool's search counts, with few distinct ones it does not.
+/// Scripts and strings that are nearly all distinct, then scripts of few distinct ones.
 pub fn write(seed: u64) {
     println!(
-        "{:<40} {:>9} {:>9} {:>9} {:>8} {:>8} {:>10} {:>11} {:>11}",
-        "",
-        "ours, ms",
-        "Rust, ms",
-        "ours/Rust",
-        "ns/byte",
-        "scan, ms",
-        "gather, ms",
-        "10^6 passed",
-        "10^9/second"
+        "{:<40} {:>9} {:>9} {:>9} {:>8} {:>8} {:>10}",
+        "", "ours, ms", "Rust, ms", "ours/Rust", "ns/byte", "scan, ms", "gather, ms"
     );
     measure(&strings_load(seed));
-    for load in growing(seed) {
-        measure(&load);
-    }
-    let per_byte: Vec<f64> = growing_of_few(seed).map(|load| measure(&load)).collect();
-    let growth = per_byte[per_byte.len() - 1] / per_byte[0];
-    println!("time per byte with few distinct strings, largest over smallest script: {growth:.2}");
+    let distinct = growing(seed).map(|load| measure(&load)).collect();
+    let few = growing_of_few(seed).map(|load| measure(&load)).collect();
+    let growth = |per_byte: Vec<f64>| per_byte[per_byte.len() - 1] / per_byte[0];
+    println!(
+        "time per byte, largest over smallest script: {:.2}; with few distinct strings: {:.2}",
+        growth(distinct),
+        growth(few)
+    );
 }
 
 /// Prints the times of a load; the nanoseconds for a byte.
@@ -40,19 +33,16 @@ fn measure(load: &Load) -> f64 {
     );
     assert!(out == load.payload);
     let (scan, gathering) = steps(load, &mut out);
-    let passed = entries_passed(&program) as f64;
     let per_byte = our_time * 1e9 / load.payload.len() as f64;
     println!(
-        "{:<40} {:>9.2} {:>9.2} {:>9.2} {:>8.2} {:>8.2} {:>10.2} {:>11.1} {:>11.2}",
+        "{:<40} {:>9.2} {:>9.2} {:>9.2} {:>8.2} {:>8.2} {:>10.2}",
         load.name,
         our_time * 1e3,
         rust_time * 1e3,
         our_time / rust_time,
         per_byte,
         scan * 1e3,
-        gathering * 1e3,
-        passed / 1e6,
-        passed / gathering / 1e9
+        gathering * 1e3
     );
     per_byte
 }
@@ -95,26 +85,4 @@ impl<'a> Call<'a> {
         let number = ours::serialize(self.program, &mut self.pool, out, &mut [0; 2]);
         assert_eq!(number, expected);
     }
-}
-
-/// The entries that searches from the first one pass: up to the string found, or all where it is new.
-fn entries_passed(program: &Program) -> usize {
-    let mut indices = HashMap::new();
-    let mut passed = 0;
-    let mut search = |string| {
-        let next = indices.len();
-        let index = *indices.entry(string).or_insert(next);
-        passed += if index == next { next } else { index + 1 };
-    };
-    for row in 0..program.counts.rows as usize {
-        if program.row(row)[0] != 16 {
-            for part in program.strings(row) {
-                search(program.bytes(part));
-            }
-        }
-    }
-    if program.counts.line_flag == 1 {
-        search(program.bytes(program.counts.name));
-    }
-    passed
 }

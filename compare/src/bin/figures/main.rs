@@ -18,8 +18,8 @@ usage: figures [--gate FILE]
 Runs `rt ci`, the comparisons and the measurements, which takes a good half hour, and writes docs/FIGURES.md and
 docs/growth.svg. Nothing else should run meanwhile. --gate FILE takes what `rt ci` printed from a file.";
 
-/// What is compared and measured, each a word of the programs `compare` and `measure`.
-const LAYERS: [&str; 4] = ["leaves", "read", "write", "check"];
+/// What is compared and measured, each a word of the programs `compare` and `measure`, the last of `measure` alone.
+const LAYERS: [&str; 5] = ["leaves", "read", "write", "check", "stack"];
 
 fn main() -> ExitCode {
     let words: Vec<String> = env::args().skip(1).collect();
