@@ -14,7 +14,7 @@ ghost use Rattle.payload.specs.Spans.{smallSpans};
 ghost use Rattle.payload.specs.Sound.{tables, spansOf, allStarts, lineSound, scriptOf};
 ghost use Rattle.slices.specs.Same.{same};
 ghost use Rattle.payload.specs.Pool.{isIn};
-ghost use Rattle.payload.specs.Shapes.{isKeyTag, shape};
+ghost use Rattle.payload.specs.Shapes.{shape};
 ghost use Rattle.payload.specs.Choice.{_and_};
 ghost use Rattle.payload.specs.Scan.{anyRow, scanValue};
 ghost use Rattle.payload.specs.Reading.{readMany};
@@ -185,12 +185,6 @@ fn row_after(rows: &[u64], count: u64, i: usize) -> usize
 
 // ---- keys
 
-fn is_key_tag(tag: u64) -> bool
-    ensures { λ r. ⌜ r ≡ isKeyTag tag ⌝ }
-{
-    ((tag == 1) | ((3 <= tag) & (tag <= 6))) | ((19 <= tag) & (tag <= 24))
-}
-
 // Whether row i can be a key.
 fn key_fits(store: &[u8], rows: &[u64], i: usize) -> bool
     ensures { λ r. ⌜ r ≡ keyFits (now (store .entry)) (now (rows .entry)) i ⌝ }
@@ -198,7 +192,7 @@ fn key_fits(store: &[u8], rows: &[u64], i: usize) -> bool
     if rows.len() / Program::ROW_WIDTH <= i {
         return false;
     }
-    if !is_key_tag(word_at(rows, i, 0)) {
+    if !row_layout::is_key_tag(word_at(rows, i, 0)) {
         return false;
     }
     row_fits(store, rows, i)

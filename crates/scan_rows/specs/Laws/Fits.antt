@@ -188,18 +188,6 @@ count-low t h = leb-true _ _ (go (shape-all (λ t sh. if_then_else_ (leb 2 (shap
     go : if_then_else_ (leb 2 (shapeRules (shape t))) (leb (1 + kindsWidth (kindsOf (shape t))) 4) true ≡ true → leb (1 + kindsWidth (kindsOf (shape t))) 4 ≡ true
     go e = rw (le-leb 2 (shapeRules (shape t)) h) at e
 
-pub key-tag-is : (t : ℕ) → ((eqb t 1 || (leb 3 t && leb t 6)) || (leb 19 t && leb t 24)) ≡ isKeyTag t
-unfolding isKeyTag _and_
-key-tag-is t = go (eqb t 1) (leb 3 t) (leb t 6) (leb 19 t) (leb t 24)
-  where
-    go : (a b c d e : Bool) → ((a || (b && c)) || (d && e)) ≡ (a or (b and c) or (d and e))
-    go true b c d e = refl
-    go false true true d e = refl
-    go false true false true e = refl
-    go false true false false e = refl
-    go false false c true e = refl
-    go false false c false e = refl
-
 module _ (store rows : List ℕ) (i : ℕ) (u : i < rowCount rows) {t : ℕ} (et : t ≡ tagAt rows i) where
   pub not-key-tag : isKeyTag t ≡ false → keyFits store rows i ≡ false
   unfolding keyFits _and_
