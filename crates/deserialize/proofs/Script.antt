@@ -20,6 +20,7 @@ use Rattle.read_items.specs.Laws.Context.{length-partsOf, partsWords-partsOf}
 use Rattle.read_items.specs.Reads.{stateAt, stopped}
 use Rattle.read_lines.specs.LinesRead.{Accepted, InContext}
 use Rattle.read_lines.specs.declared.LineIndexAt.{LineIndexAt}
+use Rattle.read_values.specs.State.{startAt}
 use Rattle.read_values.specs.Did.{Fit, Ran, context, oneTree, rowsIn, spansIn}
 use Rattle.payload.specs.declared.Capacities.{Capacities}
 use Rattle.read_values.specs.declared.State.{State}
@@ -72,7 +73,7 @@ module _ (names : List ℕ) {limits : Capacities} {p pool rows rows₁ spans spa
   no-lines-read g =
       script-no-lines (context limits p names pool) (stateAt p at 0 0) (ran .is) (g .reads limits names refl .is (s .rows) (s .spans))
 
-  module _ (fit : Fit limits p rows spans (record { at = at; rows = 0; spans = 0 }))
+  module _ (fit : Fit limits p rows spans (startAt at))
       (whole : length pool ≡ 2 * (length pool / 2)) (inside : PoolFits p pool) where
     pub accepted-leaves :
         {starts starts₁ rows′ spans′ starts′ : List ℕ} {l : LineIndexAt} → limits .starts ≤ length starts →

@@ -20,6 +20,7 @@ use Rattle.slices.specs.Laws.Zeros.{padTo-nil, zeroFrom-padTo}
 use Rattle.read_items.specs.Context.{PoolFits, contextOf}
 use Rattle.read_items.specs.Reads.{stateAt}
 use Rattle.read_pool.specs.PoolRead.{Accepted}
+use Rattle.read_values.specs.State.{startAt}
 use Rattle.read_values.specs.Did.{Fit}
 use Rattle.deserialize.specs.Script.{ScriptLeaves, poolUsed, readScript}
 use Rattle.deserialize.proofs.Script.{refused-leaves}
@@ -43,7 +44,7 @@ module _ {limits : Capacities} (rows spans starts pool : ℕ) (e : limits ≡ ca
 pub tables-fit :
     {limits : Capacities} {p : List ℕ} {at : ℕ} (rows spans : List ℕ) (starts pool : ℕ) →
     limits ≡ capacitiesOf (length rows) (length spans) starts pool → at ≤ length p →
-    Fit limits p rows spans (record { at = at; rows = 0; spans = 0 })
+    Fit limits p rows spans (startAt at)
 unfolding capacitiesOf
 tables-fit rows spans starts pool e h =
     let r = ap (λ (c : Capacities). c .rows) e in

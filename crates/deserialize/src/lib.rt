@@ -7,6 +7,7 @@ ghost use Rattle.payload.specs.Tables.{Leaves, capacitiesOf, reading};
 ghost use Rattle.read_items.specs.Context.{PoolFits};
 ghost use Rattle.read_items.specs.Reads.{stateAt};
 ghost use Rattle.read_values.specs.Did.{Fit, context};
+ghost use Rattle.read_values.specs.State.{startAt};
 ghost use Rattle.deserialize.specs.Script.{ScriptLeaves, readScript};
 use payload::Capacities;
 use payload::Counts;
@@ -38,7 +39,7 @@ fn read_script(
     limits: Capacities,
     at: usize,
 ) -> Read
-    requires { ⌜ Fit limits (now bytes) (now rows) (now spans) (record { at = at; rows = 0; spans = 0 }) ⌝ }
+    requires { ⌜ Fit limits (now bytes) (now rows) (now spans) (startAt at) ⌝ }
     requires { ⌜ limits .starts ≤ length (now starts) ⌝ }
     requires { ⌜ (length (now pool) ≡ 2 * (length (now pool) / 2)) × PoolFits (now bytes) (now pool) ⌝ }
     ensures { λ r. ⌜ ScriptLeaves (readScript (context limits (now (bytes .entry)) (now (names .entry)) (now (pool .entry))) (stateAt (now (bytes .entry)) at 0 0))
