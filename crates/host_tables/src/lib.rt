@@ -95,7 +95,8 @@ pub extern "C" fn rlc2_deserialize(
     pool: &mut [u64],
     answer: &mut [u64],
 ) -> u64
-    ensures { λ r. ⌜ HostRead (reading (capacitiesOf (length (now (rows .entry))) (length (now (spans .entry))) (length (now (starts .entry))) (length (now (pool .entry)))) (now (names .entry)) (now (bytes .entry))) (now (rows .entry)) (now (spans .entry)) (now (starts .entry)) (now (pool .entry)) (now (answer .entry)) (now (rows .exit)) (now (spans .exit)) (now (starts .exit)) (now (pool .exit)) (now (answer .exit)) r ⌝ }
+    ensures { λ r. ⌜ HostRead (reading (capacitiesOf (length (now (rows .entry))) (length (now (spans .entry))) (length (now (starts .entry))) (length (now (pool .entry)))) (now (names .entry)) (now (bytes .entry)))
+        (now (rows .entry)) (now (spans .entry)) (now (starts .entry)) (now (pool .entry)) (now (answer .entry)) (now (rows .exit)) (now (spans .exit)) (now (starts .exit)) (now (pool .exit)) (now (answer .exit)) r ⌝ }
 {
     let read = deserialize::deserialize_payload(bytes, names, rows, spans, starts, pool);
     put_read(read, answer)
@@ -112,7 +113,8 @@ pub extern "C" fn rlc2_house_check_tables(
     pool: &mut [u64],
     answer: &mut [u64],
 ) -> u64
-    ensures { λ r. ⌜ HostRead (house (capacitiesOf (length (now (rows .entry))) (length (now (spans .entry))) (length (now (starts .entry))) (length (now (pool .entry)))) (now (names .entry)) (now (payload .entry))) (now (rows .entry)) (now (spans .entry)) (now (starts .entry)) (now (pool .entry)) (now (answer .entry)) (now (rows .exit)) (now (spans .exit)) (now (starts .exit)) (now (pool .exit)) (now (answer .exit)) r ⌝ }
+    ensures { λ r. ⌜ HostRead (house (capacitiesOf (length (now (rows .entry))) (length (now (spans .entry))) (length (now (starts .entry))) (length (now (pool .entry)))) (now (names .entry)) (now (payload .entry)))
+        (now (rows .entry)) (now (spans .entry)) (now (starts .entry)) (now (pool .entry)) (now (answer .entry)) (now (rows .exit)) (now (spans .exit)) (now (starts .exit)) (now (pool .exit)) (now (answer .exit)) r ⌝ }
 {
     let read = house::house_check(payload, names, rows, spans, starts, pool);
     put_read(read, answer)

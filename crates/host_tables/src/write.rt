@@ -45,9 +45,12 @@ pub extern "C" fn rlc2_serialize(
     answer: &mut [u64],
 ) -> u64
     ensures { λ r. ⌜ r ≡ writtenNumber (writeAnswer (hostWriting (now (store .entry)) (now (counts .entry)) (now (rows .entry)) (now (spans .entry)) (now (starts .entry)) (length (now (pool .entry))) (length (now (out .entry))))) ⌝ }
-    ensures { λ _. ⌜ now (pool .exit) ≡ padTo (length (now (pool .entry))) (writtenPool (hostWriting (now (store .entry)) (now (counts .entry)) (now (rows .entry)) (now (spans .entry)) (now (starts .entry)) (length (now (pool .entry))) (length (now (out .entry))))) ⌝ }
-    ensures { λ _. ⌜ now (out .exit) ≡ writtenOver (hostWriting (now (store .entry)) (now (counts .entry)) (now (rows .entry)) (now (spans .entry)) (now (starts .entry)) (length (now (pool .entry))) (length (now (out .entry)))) (now (out .entry)) ⌝ }
-    ensures { λ _. ⌜ now (answer .exit) ≡ putIfRoom (now (answer .entry)) 0 (writtenFields (writeAnswer (hostWriting (now (store .entry)) (now (counts .entry)) (now (rows .entry)) (now (spans .entry)) (now (starts .entry)) (length (now (pool .entry))) (length (now (out .entry)))))) ⌝ }
+    ensures { λ _. ⌜ now (pool .exit) ≡ padTo (length (now (pool .entry)))
+        (writtenPool (hostWriting (now (store .entry)) (now (counts .entry)) (now (rows .entry)) (now (spans .entry)) (now (starts .entry)) (length (now (pool .entry))) (length (now (out .entry))))) ⌝ }
+    ensures { λ _. ⌜ now (out .exit)
+        ≡ writtenOver (hostWriting (now (store .entry)) (now (counts .entry)) (now (rows .entry)) (now (spans .entry)) (now (starts .entry)) (length (now (pool .entry))) (length (now (out .entry)))) (now (out .entry)) ⌝ }
+    ensures { λ _. ⌜ now (answer .exit) ≡ putIfRoom (now (answer .entry)) 0
+        (writtenFields (writeAnswer (hostWriting (now (store .entry)) (now (counts .entry)) (now (rows .entry)) (now (spans .entry)) (now (starts .entry)) (length (now (pool .entry))) (length (now (out .entry)))))) ⌝ }
 {
     match serialize::serialize_payload(store, program_of(counts), rows, spans, starts, pool, out) {
         Written::Accepted(length) => {

@@ -263,7 +263,8 @@ fn head_fits(store: &[u8], rows: &[u64], tag: u64, i: usize) -> bool
 fn is_new_key(store: &[u8], rows: &[u64], width: u64, first: usize, i: usize) -> bool
     requires { ⌜ 1 ≤ width ⌝ }
     requires { ⌜ ((l : List (List ℕ)) × Entries (now store) (now rows) width first i l) ⌝ }
-    ensures { λ r. ⌜ ((l : List (List ℕ)) → Entries (now (store .entry)) (now (rows .entry)) width first i l → r ≡ (keyFits (now (store .entry)) (now (rows .entry)) i and not (isIn (rowKey (now (store .entry)) (now (rows .entry)) i) l))) ⌝ }
+    ensures { λ r. ⌜ ((l : List (List ℕ)) → Entries (now (store .entry)) (now (rows .entry)) width first i l
+        → r ≡ (keyFits (now (store .entry)) (now (rows .entry)) i and not (isIn (rowKey (now (store .entry)) (now (rows .entry)) i) l))) ⌝ }
 {
     if !key_fits(store, rows, i) {
         return false;
@@ -297,7 +298,8 @@ fn scan_value(depth: usize, store: &[u8], rows: &[u64], i: usize) -> Scan
 fn scan_under(depth: usize, store: &[u8], rows: &[u64], i: usize) -> Scan
     requires { ⌜ WholeRows (now rows) ⌝ }
     requires { ⌜ i < rowCount (now rows) ⌝ }
-    ensures { λ r. ⌜ Scanned (now (rows .entry)) (rowsUnder (now (rows .entry)) i) (i + 1) r (scanUnder (now (store .entry)) (scanValue (now (store .entry)) depth) (shape (tagAt (now (rows .entry)) i)) (countAt (now (rows .entry)) i) (atRow (now (rows .entry)) (i + 1))) ⌝ }
+    ensures { λ r. ⌜ Scanned (now (rows .entry)) (rowsUnder (now (rows .entry)) i) (i + 1) r
+        (scanUnder (now (store .entry)) (scanValue (now (store .entry)) depth) (shape (tagAt (now (rows .entry)) i)) (countAt (now (rows .entry)) i) (atRow (now (rows .entry)) (i + 1))) ⌝ }
 {
     let tag = word_at(rows, i, 0);
     let rules = row_layout::under_rules(tag);

@@ -213,7 +213,8 @@ fn write_item(
 ) -> Step
     requires { ⌜ Ready comparing (now out) (st .at) ⌝ }
     requires { ⌜ Writable (now store) (now pool) (now spans) ⌝ }
-    ensures { λ r. ⌜ Emitted comparing (now (payload .entry)) (now (out .entry)) (now (out .exit)) (st .at) (r .at) (itemBytes (now (store .entry)) (poolStrings (now (store .entry)) (now (pool .entry))) (spansOf (now (spans .entry))) form a b) ⌝ }
+    ensures { λ r. ⌜ Emitted comparing (now (payload .entry)) (now (out .entry)) (now (out .exit)) (st .at) (r .at)
+        (itemBytes (now (store .entry)) (poolStrings (now (store .entry)) (now (pool .entry))) (spansOf (now (spans .entry))) form a b) ⌝ }
 {
     if form < 6 {
         let next = write_number(form, comparing, payload, out, st.at, a);
@@ -444,7 +445,8 @@ fn write_row(
     requires { ⌜ Ready comparing (now out) (st .at) ⌝ }
     requires { ⌜ Writable (now store) (now pool) (now spans) ⌝ }
     requires { ⌜ (st .row < rowCount (now rows)) × (st .span ≤ length (now spans) / 2) ⌝ }
-    ensures { λ r. ⌜ Reached comparing (now (payload .entry)) (now (out .entry)) (now (out .exit)) (length (now (spans .entry)) / 2) st r (walkRow (held (now (store .entry)) (now (pool .entry)) (now (rows .entry)) (now (spans .entry))) (walk (held (now (store .entry)) (now (pool .entry)) (now (rows .entry)) (now (spans .entry))) depth) (st .row) (st .span)) ⌝ }
+    ensures { λ r. ⌜ Reached comparing (now (payload .entry)) (now (out .entry)) (now (out .exit)) (length (now (spans .entry)) / 2) st r
+        (walkRow (held (now (store .entry)) (now (pool .entry)) (now (rows .entry)) (now (spans .entry))) (walk (held (now (store .entry)) (now (pool .entry)) (now (rows .entry)) (now (spans .entry))) depth) (st .row) (st .span)) ⌝ }
 {
     let i = st.row;
     let j = st.span;
@@ -550,7 +552,8 @@ fn write_rows(
     requires { ⌜ Ready comparing (now out) (st .at) ⌝ }
     requires { ⌜ Writable (now store) (now pool) (now spans) ⌝ }
     requires { ⌜ st .span ≤ length (now spans) / 2 ⌝ }
-    ensures { λ r. ⌜ Reached comparing (now (payload .entry)) (now (out .entry)) (now (out .exit)) (length (now (spans .entry)) / 2) st r (walk (held (now (store .entry)) (now (pool .entry)) (now (rows .entry)) (now (spans .entry))) depth count (st .row) (st .span)) ⌝ }
+    ensures { λ r. ⌜ Reached comparing (now (payload .entry)) (now (out .entry)) (now (out .exit)) (length (now (spans .entry)) / 2) st r
+        (walk (held (now (store .entry)) (now (pool .entry)) (now (rows .entry)) (now (spans .entry))) depth count (st .row) (st .span)) ⌝ }
 {
     if depth == 0 {
         return st;
@@ -702,7 +705,8 @@ fn write_all(
 ) -> usize
     requires { ⌜ Ready comparing (now out) 0 ⌝ }
     requires { ⌜ Writable (now store) (now pool) (now spans) ⌝ }
-    ensures { λ r. ⌜ Emitted comparing (now (payload .entry)) (now (out .entry)) (now (out .exit)) 0 r (payloadBytes (held (now (store .entry)) (now (pool .entry)) (now (rows .entry)) (now (spans .entry))) flag (bytesAt (now (store .entry)) o n) (now (starts .entry))) ⌝ }
+    ensures { λ r. ⌜ Emitted comparing (now (payload .entry)) (now (out .entry)) (now (out .exit)) 0 r
+        (payloadBytes (held (now (store .entry)) (now (pool .entry)) (now (rows .entry)) (now (spans .entry))) flag (bytesAt (now (store .entry)) o n) (now (starts .entry))) ⌝ }
 {
     let a = lend_pool(comparing, payload, out, 0, store, pool);
     let b = lend_values(comparing, payload, out, a, store, pool, rows, spans);

@@ -46,7 +46,8 @@ begins-append (x ∷ a) b (y ∷ l) = go (eqb x y) (begins-append a b l)
 
 goesOn-append : (comparing : Bool) (p : List ℕ) (at : ℕ) (a b : List ℕ) → goesOn comparing p at a ≡ true → goesOn comparing p at (a ++ b) ≡ goesOn comparing p (at + length a) b
 unfolding goesOn
-goesOn-append comparing p at a b h = ap₂ (λ (x y : Bool). x && y) (ap (λ (n : ℕ). leb n limit) (ap (λ (n : ℕ). at + n) (length-append a b) ∙ sym (add-assoc at (length a) (length b)))) (go comparing (and-right (leb (at + length a) limit) _ h))
+goesOn-append comparing p at a b h =
+    ap₂ (λ (x y : Bool). x && y) (ap (λ (n : ℕ). leb n limit) (ap (λ (n : ℕ). at + n) (length-append a b) ∙ sym (add-assoc at (length a) (length b)))) (go comparing (and-right (leb (at + length a) limit) _ h))
   where
     go : (t : Bool) → cond t (begins a (drop at p)) true ≡ true → cond t (begins (a ++ b) (drop at p)) true ≡ cond t (begins b (drop (at + length a) p)) true
     go false q = refl

@@ -1,4 +1,5 @@
--- `gather::intern` meets its contract: a walk of its MIR, by hand. The pool's borrow is opened, and its number is read; the table's borrow goes to `intern_at` at its own lifetime, share and name, for good (`gave-slice`); the number that `intern_at` returned is stored in the pool's cell, and the pool's borrow is closed at the new record.
+-- `gather::intern` meets its contract: a walk of its MIR, by hand. The pool's borrow is opened, and its number is read;
+-- the table's borrow goes to `intern_at` at its own lifetime, share and name, for good (`gave-slice`); the number that `intern_at` returned is stored in the pool's cell, and the pool's borrow is closed at the new record.
 -- All that the proof knows of `intern_at` is that it meets its contract.
 -- Assumes nothing.
 use mathlib.Core.Path.{_≡_, refl, ap}
@@ -72,7 +73,8 @@ stayed = (
 abbrev InternAt : {M : Type 1} (𝓤 : URA M) (H : Heap 𝓤) (A : Atoms 𝓤) (mem : Memory → SProp 𝓤) (run : Routine → Fun 𝓤) → Contract 𝓤
 InternAt 𝓤 H A mem run = tripleOf 𝓤 H A intern-at.signature (intern-at.spec 𝓤 H A mem run)
 
-module _ {M : Type 1} (𝓤 : URA M) (H : Heap 𝓤) (A : Atoms 𝓤) (W : Given 𝓤 H A) (at-mem : Memory → SProp 𝓤) (run : Routine → Fun 𝓤) (κ κ₁ κ₂ : Lft) (q q₁ q₂ : Share) (bounds : AllOutlive 3 (f.signature .outlives) (κ, (κ₁, (κ₂, tt)))) (b o : ℕ) (γ : GName) (h : PoolState) (b₁ o₁ : ℕ) (γ₁ : GName) (ys : List ℕ) (s : RefT (List ℕ)) (p m : ℕ) (p-fits : p < 2 ^ 64) (m-fits : m < 2 ^ 64) where
+module _ {M : Type 1} (𝓤 : URA M) (H : Heap 𝓤) (A : Atoms 𝓤) (W : Given 𝓤 H A) (at-mem : Memory → SProp 𝓤) (run : Routine → Fun 𝓤) (κ κ₁ κ₂ : Lft) (q q₁ q₂ : Share)
+    (bounds : AllOutlive 3 (f.signature .outlives) (κ, (κ₁, (κ₂, tt)))) (b o : ℕ) (γ : GName) (h : PoolState) (b₁ o₁ : ℕ) (γ₁ : GName) (ys : List ℕ) (s : RefT (List ℕ)) (p m : ℕ) (p-fits : p < 2 ^ 64) (m-fits : m < 2 ^ 64) where
   abbrev R : RattleType
   R = T.the-row
 
@@ -156,7 +158,8 @@ module _ {M : Type 1} (𝓤 : URA M) (H : Heap 𝓤) (A : Atoms 𝓤) (W : Given
       ∷ ‵ (finally u64 γ₁ zs) ∷ ‵ OwnS ∷ [])) (Post (vint w64 (r .index)))
   exits r zs e l fits =
       qed W (‵ (fobs γ (R .coded .code (h′ (r .used)))) ∷ ‵ (fbor κ (Body (mem R) b o γ)) ∷ ‵ (flft κ q) ∷ (‵ (flft κ₁ q₁) ⊛ ‵ (flft κ₂ q₂) ⊛ ‵ ftrue) ∷ ‵ (finally u64 γ₁ zs) ∷ ‵ OwnS ∷ []) ∵
-      suffices ! _ (ends-at 𝓤 H A f.ended stayed (f.clauses 𝓤 H A at-mem run) W (((κ, (κ₁, (κ₂, tt))), (q, (q₁, (q₂, tt))), bounds, a, vals), tt) (vint w64 (r .index)) (r .index) (h′ (r .used), (zs, (tt, (tt, (tt, tt))))) (tt, (l, (tt, (tt, (tt, tt)))))) $
+      suffices ! _ (ends-at 𝓤 H A f.ended stayed (f.clauses 𝓤 H A at-mem run) W
+      (((κ, (κ₁, (κ₂, tt))), (q, (q₁, (q₂, tt))), bounds, a, vals), tt) (vint w64 (r .index)) (r .index) (h′ (r .used), (zs, (tt, (tt, (tt, tt))))) (tt, (l, (tt, (tt, (tt, tt)))))) $
       says ! (ap (λ (y : Placed). y .index) (e .0), ap (λ (y : Placed). h′ (y .used)) (e .0), e .1) $
       move ! (2 ∷ 3 ∷ []) $ join ! $ frame ! $ feqI ! (List Val) (vptr b o ∷ []) (vptr b o ∷ []) refl $ fjoin3 ! $
       -- [the pool's borrow; the last list; what store owns]
@@ -185,9 +188,11 @@ module _ {M : Type 1} (𝓤 : URA M) (H : Heap 𝓤) (A : Atoms 𝓤) (W : Given
         ent 𝓤 (onEntry 𝓤 H A f.signature (κ, (κ₁, (κ₂, tt))) (q, (q₁, (q₂, tt))) a vals)
         (WpFn 𝓤 H C Λ code.function (vptr b o ∷ sx ∷ ss ∷ vint w64 p ∷ vint w64 m ∷ []) Post)
     walk within room at-store =
-        qed W ((‵ (flft κ q) ⊛ ‵ (flft κ₁ q₁) ⊛ ‵ (flft κ₂ q₂) ⊛ ‵ ftrue) ∷ ‵ (owns (MutRef (named 0) κ R ∷ MutSlice (named 1) κ₁ u64 ∷ ShrSlice (named 2) κ₂ u8 ∷ u64 ∷ u64 ∷ []) a vals) ∷ []) ∵ enter ! C Λ code.function (vptr b o ∷ sx ∷ ss ∷ vint w64 p ∷ vint w64 m ∷ []) _ $
+        qed W ((‵ (flft κ q) ⊛ ‵ (flft κ₁ q₁) ⊛ ‵ (flft κ₂ q₂) ⊛ ‵ ftrue) ∷ ‵ (owns (MutRef (named 0) κ R ∷ MutSlice (named 1) κ₁ u64 ∷ ShrSlice (named 2) κ₂ u8 ∷ u64 ∷ u64 ∷ []) a vals) ∷ []) ∵
+        enter ! C Λ code.function (vptr b o ∷ sx ∷ ss ∷ vint w64 p ∷ vint w64 m ∷ []) _ $
         alloc1 ! (λ l₀. alloc1 ! (λ l₁. alloc1 ! (λ l₂. alloc1 ! (λ l₃. alloc1 ! (λ l₄. alloc1 ! (λ l₅. alloc1 ! (λ l₆. alloc1 ! (λ l₇. alloc1 ! (λ l₈. alloc1 ! (λ l₉. alloc0 ! $ params1 ! $
-        pass1 ! (init ! 16 refl (tt, tt)) $ pass1 ! (init ! 14 refl (tt, (tt, (record { fits = room .0 }, tt)))) $ pass1 ! (init ! 12 refl (shr-slice-lawful 𝓤 H A W (named 2) κ₂ u8 .typed s (ss ∷ []) at-store .0)) $ pass1 ! (init ! 10 refl (tt, record { fits = p-fits })) $ pass1 ! (init ! 8 refl (tt, record { fits = m-fits })) $ pass0 ! $
+        pass1 ! (init ! 16 refl (tt, tt)) $ pass1 ! (init ! 14 refl (tt, (tt, (record { fits = room .0 }, tt)))) $ pass1 ! (init ! 12 refl (shr-slice-lawful 𝓤 H A W (named 2) κ₂ u8 .typed s (ss ∷ []) at-store .0)) $
+        pass1 ! (init ! 10 refl (tt, record { fits = p-fits })) $ pass1 ! (init ! 8 refl (tt, record { fits = m-fits })) $ pass0 ! $
         -- the pool's borrow is opened
         move ! (21 ∷ []) $ fsplit ! $ fsplit3 ! $ drop ! $ move ! (23 ∷ []) $ split ! $ move ! (2 ∷ 3 ∷ 0 ∷ []) $
         opens ! tt R {h = h} b o (λ vs. spelt ! R (Is R) (shows 𝓤 H A R) (LL.vals T.the-type T′.the-laws) (LL.tells T.the-type T′.the-laws) fullShare h vs b o $
@@ -195,24 +200,30 @@ module _ {M : Type 1} (𝓤 : URA M) (H : Heap 𝓤) (A : Atoms 𝓤) (W : Given
         -- [the pool's cell; what it owns; the open borrow; obs; auth; the other tokens; what the other parameters own; _9; …; _8; …; _7; …; _6; …; _5; …; _4; …; _3; …; _2; …; _1; …; room for _0; …]
         assigns ! (of-opd ! (load ! (from ! (hop ! (look ! 23 refl) (fld ! refl (stop !)))) (look-in ! 0 (sub ! 0 refl (whole !))))) (from ! (stop !)) (init ! 11 refl (tt, record { fits = used-fits was })) $
         assigns ! (addr ! (from ! (fld ! refl (hop ! (look-in ! 21 (sub ! 0 refl (whole !))) (stop !))))) (from ! (stop !)) (init ! 9 refl (tt, tt)) $
-        assigns ! (agg ! (and-then ! (load ! (from ! (stop !)) (look ! 9 refl)) (and-then ! (load ! (from ! (fld ! refl (stop !))) (look-in ! 21 (sub ! 1 refl (whole !)))) (no-more !)))) (from ! (stop !)) (init ! 7 refl (tt, (tt, (record { fits = room .0 }, tt)))) $
+        assigns ! (agg ! (and-then ! (load ! (from ! (stop !)) (look ! 9 refl)) (and-then ! (load ! (from ! (fld ! refl (stop !))) (look-in ! 21 (sub ! 1 refl (whole !)))) (no-more !))))
+        (from ! (stop !)) (init ! 7 refl (tt, (tt, (record { fits = room .0 }, tt)))) $
         -- the call
         move ! (5 ∷ 6 ∷ []) $ use2 W (raw (InternAt 𝓤 H A at-mem run .pre to) ⊛ ‵ OwnS) (goes (used-fits was) within) $ split ! $
-        calls-at ! fm (InternAt 𝓤 H A at-mem run) known to (and-then ! (load ! (from ! (stop !)) (look ! 11 refl)) (and-then ! (load ! (from ! (stop !)) (look ! 7 refl)) (and-then ! (load ! (from ! (stop !)) (look ! 19 refl)) (and-then ! (load ! (from ! (stop !)) (look ! 17 refl)) (and-then ! (load ! (from ! (stop !)) (look ! 15 refl)) (no-more !)))))) (λ w.
-        use1 W (later (some (λ (r : Placed). ((‵ (flft κ₁ q₁) ⊛ ‵ (flft κ₂ q₂) ⊛ ‵ ftrue) ⊛ ‵ (P.the-row .own r (w ∷ []))) ⊛ raw (ensured 𝓤 H A intern-at.ended (intern-at.clauses 𝓤 H A at-mem run) (κ₁, (κ₂, tt)) (h .used, (x, (s, (p, (m, tt))))) tt r)))) (id⊢ 𝓤 _) $ await ! tt $ pick ! (λ r.
+        calls-at ! fm (InternAt 𝓤 H A at-mem run) known to (and-then ! (load ! (from ! (stop !)) (look ! 11 refl)) (and-then ! (load ! (from ! (stop !)) (look ! 7 refl))
+        (and-then ! (load ! (from ! (stop !)) (look ! 19 refl)) (and-then ! (load ! (from ! (stop !)) (look ! 17 refl)) (and-then ! (load ! (from ! (stop !)) (look ! 15 refl)) (no-more !)))))) (λ w.
+        use1 W (later (some (λ (r : Placed). ((‵ (flft κ₁ q₁) ⊛ ‵ (flft κ₂ q₂) ⊛ ‵ ftrue) ⊛ ‵ (P.the-row .own r (w ∷ [])))
+        ⊛ raw (ensured 𝓤 H A intern-at.ended (intern-at.clauses 𝓤 H A at-mem run) (κ₁, (κ₂, tt)) (h .used, (x, (s, (p, (m, tt))))) tt r)))) (id⊢ 𝓤 _) $ await ! tt $ pick ! (λ r.
         -- what `intern_at` ensures, at some last list
-        split ! $ move ! (1 ∷ []) $ use1 W (some (λ (zs : Unit {0} × (List ℕ × (Unit {0} × (Unit {0} × (Unit {0} × Unit {0}))))). ‵ (lasts intern-at.ended (κ₁, (κ₂, tt)) (h .used, (x, (s, (p, (m, tt))))) zs) ⊛ raw (fact 𝓤 ((r ≡ placedOf (s .now) ys (h .used) p m) × TableAfter (s .now) ys (h .used) p m (zs .1 .0))))) (id⊢ 𝓤 _) $ pick ! (λ zs.
+        split ! $ move ! (1 ∷ []) $ use1 W (some (λ (zs : Unit {0} × (List ℕ × (Unit {0} × (Unit {0} × (Unit {0} × Unit {0}))))). ‵ (lasts intern-at.ended (κ₁, (κ₂, tt)) (h .used, (x, (s, (p, (m, tt))))) zs)
+        ⊛ raw (fact 𝓤 ((r ≡ placedOf (s .now) ys (h .used) p m) × TableAfter (s .now) ys (h .used) p m (zs .1 .0))))) (id⊢ 𝓤 _) $ pick ! (λ zs.
         split ! $ move ! (1 ∷ []) $ heard ! ((r ≡ placedOf (s .now) ys (h .used) p m) × TableAfter (s .now) ys (h .used) p m (zs .1 .0)) (λ e. fsplit ! $ drop ! $ fsplit ! $ fsplit ! $ move ! (1 ∷ []) $ feqL ! (λ l.
         move ! (2 ∷ []) $ split ! $ move ! (1 ∷ []) $ peeks ! P.the-row (Is P.the-row) (shows 𝓤 H A P.the-row) r (w ∷ []) (λ is.
         -- [the answer; the other tokens; the last list; …; what store owns; the pool's cell; what it owned; the open borrow; obs; auth; _9; …; _0; …]
         land ! (from ! (stop !)) (init ! 16 refl (LL.lawful P.the-type P′.the-laws 𝓤 H A W .typed r _ is .0)) $ rewrite ! 16 (λ (u : Val). ‵ (fat fullShare P′.mir l₆ 0 u)) (ap only (LL.tells P.the-type P′.the-laws r _ is)) refl $
-        assigns ! (of-opd ! (load ! (from ! (fld ! refl (stop !))) (look-in ! 16 (sub ! 0 refl (whole !))))) (from ! (hop ! (look ! 26 refl) (fld ! refl (stop !)))) (store-in ! 5 (sub ! 0 refl (whole !)) (tt, record { fits = r-used r w is })) $
+        assigns ! (of-opd ! (load ! (from ! (fld ! refl (stop !))) (look-in ! 16 (sub ! 0 refl (whole !)))))
+        (from ! (hop ! (look ! 26 refl) (fld ! refl (stop !)))) (store-in ! 5 (sub ! 0 refl (whole !)) (tt, record { fits = r-used r w is })) $
         assigns ! (of-opd ! (load ! (from ! (fld ! refl (stop !))) (look-in ! 16 (sub ! 1 refl (whole !))))) (from ! (stop !)) (init ! 28 refl (tt, record { fits = r-index r w is })) $
         -- the pool's borrow is closed at the new record
         move ! (6 ∷ []) $ drop ! $ owned ! R (Is R) ((LL.makes T.the-type T′.the-plain) 𝓤 H A) (h′ (r .used)) _ (made (r .used) (r-used r w is)) $
         move ! (6 ∷ 0 ∷ 7 ∷ 8 ∷ 9 ∷ []) $ closes ! tt R (h′ (r .used)) (mach (r .used) ∷ []) b o $
         returns ! (look ! 26 refl) $ forget ! 8 refl $ forget ! 10 refl $ forget ! 12 refl $ forget ! 14 refl $ forget ! 16 refl $ forget ! 18 refl $ forget ! 20 refl $ forget ! 22 refl $ forget ! 24 refl $ forget ! 26 refl $
-        move ! (26 ∷ 27 ∷ []) $ free1 ! $ move ! (24 ∷ 25 ∷ []) $ free1 ! $ move ! (22 ∷ 23 ∷ []) $ free1 ! $ move ! (20 ∷ 21 ∷ []) $ free1 ! $ move ! (18 ∷ 19 ∷ []) $ free1 ! $ move ! (16 ∷ 17 ∷ []) $ free1 ! $ move ! (14 ∷ 15 ∷ []) $ free1 ! $ move ! (12 ∷ 13 ∷ []) $ free1 ! $ move ! (10 ∷ 11 ∷ []) $ free1 ! $ move ! (8 ∷ 9 ∷ []) $ free1 ! $ free0 ! $
+        move ! (26 ∷ 27 ∷ []) $ free1 ! $ move ! (24 ∷ 25 ∷ []) $ free1 ! $ move ! (22 ∷ 23 ∷ []) $ free1 ! $ move ! (20 ∷ 21 ∷ []) $ free1 ! $ move ! (18 ∷ 19 ∷ []) $ free1 ! $
+        move ! (16 ∷ 17 ∷ []) $ free1 ! $ move ! (14 ∷ 15 ∷ []) $ free1 ! $ move ! (12 ∷ 13 ∷ []) $ free1 ! $ move ! (10 ∷ 11 ∷ []) $ free1 ! $ move ! (8 ∷ 9 ∷ []) $ free1 ! $ free0 ! $
         keep ! (0 ∷ 1 ∷ 2 ∷ 4 ∷ 5 ∷ 7 ∷ []) $ by ! (exits r (zs .1 .0) e l (r-index r w is))))))))))))))))))))
 
 module _ {M : Type 1} (𝓤 : URA M) (H : Heap 𝓤) (A : Atoms 𝓤) (W : Given 𝓤 H A) (mem : Memory → SProp 𝓤) (run : Routine → Fun 𝓤) where

@@ -1,4 +1,5 @@
--- `gather::intern_from` meets its contract: a walk of its MIR, by hand. The record is a local: its cell and what it owns are put together, it is lent to `intern` for a lifetime that is made for the call, and it is back, at its last value, once the lifetime is ended.
+-- `gather::intern_from` meets its contract: a walk of its MIR, by hand. The record is a local: its cell and what it owns are put together,
+-- it is lent to `intern` for a lifetime that is made for the call, and it is back, at its last value, once the lifetime is ended.
 -- Assumes nothing.
 use mathlib.Core.Path.{_≡_, refl, ap}
 use Prim.Native.Nat.{ℕ, _<_, _^_}
@@ -74,7 +75,8 @@ stayed = (
 abbrev Intern : {M : Type 1} (𝓤 : URA M) (H : Heap 𝓤) (A : Atoms 𝓤) (mem : Memory → SProp 𝓤) (run : Routine → Fun 𝓤) → Contract 𝓤
 Intern 𝓤 H A mem run = tripleOf 𝓤 H A callee.signature (callee.spec 𝓤 H A mem run)
 
-module _ {M : Type 1} (𝓤 : URA M) (H : Heap 𝓤) (A : Atoms 𝓤) (W : Given 𝓤 H A) (at-mem : Memory → SProp 𝓤) (run : Routine → Fun 𝓤) (κ₁ κ₂ : Lft) (q₁ q₂ : Share) (bounds : AllOutlive 2 (f.signature .outlives) (κ₁, (κ₂, tt))) (n : ℕ) (b₁ o₁ : ℕ) (γ₁ : GName) (ys : List ℕ) (s : RefT (List ℕ)) (p m : ℕ) (n-fits : n < 2 ^ 64) (p-fits : p < 2 ^ 64) (m-fits : m < 2 ^ 64) (within : Holding (s .now) ys n) where
+module _ {M : Type 1} (𝓤 : URA M) (H : Heap 𝓤) (A : Atoms 𝓤) (W : Given 𝓤 H A) (at-mem : Memory → SProp 𝓤) (run : Routine → Fun 𝓤) (κ₁ κ₂ : Lft) (q₁ q₂ : Share) (bounds : AllOutlive 2 (f.signature .outlives) (κ₁, (κ₂, tt)))
+    (n : ℕ) (b₁ o₁ : ℕ) (γ₁ : GName) (ys : List ℕ) (s : RefT (List ℕ)) (p m : ℕ) (n-fits : n < 2 ^ 64) (p-fits : p < 2 ^ 64) (m-fits : m < 2 ^ 64) (within : Holding (s .now) ys n) where
   abbrev R : RattleType
   R = T.the-row
 
@@ -148,7 +150,8 @@ module _ {M : Type 1} (𝓤 : URA M) (H : Heap 𝓤) (A : Atoms 𝓤) (W : Given
       move ! (2 ∷ []) $ fsplit ! $ drop ! $ fsplit ! $ move ! (1 ∷ []) $ fsplit ! $ use1 W (‵ OwnS ⊛ ‵ OwnS) (shr-slice-copy 𝓤 H A W (named 1) κ₂ u8 .twice s (ss ∷ [])) $ split ! $
       -- [what store owns, twice; what o and n own; what table owns; the tokens; the pool's borrow]
       move ! (0 ∷ 2 ∷ []) $ fjoin ! $ move ! (2 ∷ 0 ∷ []) $ fjoin ! $ move ! (3 ∷ 0 ∷ []) $ fjoin ! $
-      move ! (2 ∷ 0 ∷ []) $ use2 W (raw (Intern 𝓤 H A at-mem run .pre (to ν l γ))) (qed W ((‵ (flft (ν ∷ []) fullShare) ⊛ ‵ (flft κ₁ q₁) ⊛ ‵ (flft κ₂ q₂) ⊛ ‵ ftrue) ∷ ‵ (Passed ν l γ) ∷ []) ∵ says ! within $ frame ! $ done !) $ frame ! $ done !
+      move ! (2 ∷ 0 ∷ []) $ use2 W (raw (Intern 𝓤 H A at-mem run .pre (to ν l γ))) (qed W ((‵ (flft (ν ∷ []) fullShare) ⊛ ‵ (flft κ₁ q₁) ⊛ ‵ (flft κ₂ q₂) ⊛ ‵ ftrue) ∷ ‵ (Passed ν l γ) ∷ []) ∵
+      says ! within $ frame ! $ done !) $ frame ! $ done !
 
   -- the answer, of the record's last number and the result
   abbrev res : PoolState → ℕ → Placed
@@ -181,11 +184,14 @@ module _ {M : Type 1} (𝓤 : URA M) (H : Heap 𝓤) (A : Atoms 𝓤) (W : Given
     walk room at-store =
         qed W ((‵ (flft κ₁ q₁) ⊛ ‵ (flft κ₂ q₂) ⊛ ‵ ftrue) ∷ ‵ Params ∷ []) ∵ enter ! C Λ code.function (vint w64 n ∷ sx ∷ ss ∷ vint w64 p ∷ vint w64 m ∷ []) _ $
         alloc1 ! (λ l₀. alloc1 ! (λ l₁. alloc1 ! (λ l₂. alloc1 ! (λ l₃. alloc1 ! (λ l₄. alloc1 ! (λ l₅. alloc1 ! (λ l₆. alloc1 ! (λ l₇. alloc1 ! (λ l₈. alloc1 ! (λ l₉. alloc1 ! (λ l₁₀. alloc1 ! (λ l₁₁. alloc0 ! $ params1 ! $
-        pass1 ! (init ! 20 refl (tt, record { fits = n-fits })) $ pass1 ! (init ! 18 refl (tt, (tt, (record { fits = room .0 }, tt)))) $ pass1 ! (init ! 16 refl (shr-slice-lawful 𝓤 H A W (named 1) κ₂ u8 .typed s (ss ∷ []) at-store .0)) $ pass1 ! (init ! 14 refl (tt, record { fits = p-fits })) $ pass1 ! (init ! 12 refl (tt, record { fits = m-fits })) $ pass0 ! $
+        pass1 ! (init ! 20 refl (tt, record { fits = n-fits })) $ pass1 ! (init ! 18 refl (tt, (tt, (record { fits = room .0 }, tt)))) $
+        pass1 ! (init ! 16 refl (shr-slice-lawful 𝓤 H A W (named 1) κ₂ u8 .typed s (ss ∷ []) at-store .0)) $
+        pass1 ! (init ! 14 refl (tt, record { fits = p-fits })) $ pass1 ! (init ! 12 refl (tt, record { fits = m-fits })) $ pass0 ! $
         assigns ! (agg ! (and-then ! (load ! (from ! (stop !)) (look ! 20 refl)) (no-more !))) (from ! (stop !)) (init ! 10 refl (tt, (record { fits = n-fits }, tt))) $
         assigns ! (addr ! (from ! (stop !))) (from ! (stop !)) (init ! 6 refl (tt, tt)) $
         assigns ! (addr ! (from ! (fld ! refl (hop ! (look-in ! 18 (sub ! 0 refl (whole !))) (stop !))))) (from ! (stop !)) (init ! 4 refl (tt, tt)) $
-        assigns ! (agg ! (and-then ! (load ! (from ! (stop !)) (look ! 4 refl)) (and-then ! (load ! (from ! (fld ! refl (stop !))) (look-in ! 18 (sub ! 1 refl (whole !)))) (no-more !)))) (from ! (stop !)) (init ! 2 refl (tt, (tt, (record { fits = room .0 }, tt)))) $
+        assigns ! (agg ! (and-then ! (load ! (from ! (stop !)) (look ! 4 refl)) (and-then ! (load ! (from ! (fld ! refl (stop !))) (look-in ! 18 (sub ! 1 refl (whole !)))) (no-more !))))
+        (from ! (stop !)) (init ! 2 refl (tt, (tt, (record { fits = room .0 }, tt)))) $
         -- the local record is lent for a lifetime ν of the call
         move ! (10 ∷ []) $ use1 W (‵ (cellAt fullShare (R .mir) (mach h₀ ∷ []) l₆ 0)) (W .laws .at-raw fullShare T′.mir l₆ 0 (mach h₀)) $
         owned ! R (Is R) ((LL.makes T.the-type T′.the-plain) 𝓤 H A) h₀ _ (LL.owes T.the-type T′.the-laws h₀ ((refl, n-fits), tt)) $ move ! (1 ∷ 0 ∷ []) $
@@ -193,10 +199,13 @@ module _ {M : Type 1} (𝓤 : URA M) (H : Heap 𝓤) (A : Atoms 𝓤) (W : Given
         use1 W (later (some (λ (γ : GName). ‵ (OwnP ν l₆ γ) ⊛ ‵ (flent (ν ∷ []) (Body (mem R) l₆ 0 γ))))) (lends-ref 𝓤 H A W R (named 0) (ν ∷ []) h₀ l₆ 0) $ await ! tt $ pick ! (λ γ. split ! $
         -- [the pool's borrow; the lender's part; ν's token; _11; …; _10; …; _9; …; _8; …; _7; …; (_6's); _5; …; _4; …; _3; …; _2; …; _1; …; room for _0; …; the tokens; what the parameters own]
         move ! (2 ∷ 26 ∷ []) $ join ! $ move ! (0 ∷ 1 ∷ 26 ∷ []) $ use3 W (raw (Intern 𝓤 H A at-mem run .pre (to ν l₆ γ)) ⊛ ‵ OwnS) (goes ν l₆ γ) $ split ! $
-        calls-at ! fm (Intern 𝓤 H A at-mem run) known (to ν l₆ γ) (and-then ! (load ! (from ! (stop !)) (look ! 9 refl)) (and-then ! (load ! (from ! (stop !)) (look ! 5 refl)) (and-then ! (load ! (from ! (stop !)) (look ! 18 refl)) (and-then ! (load ! (from ! (stop !)) (look ! 16 refl)) (and-then ! (load ! (from ! (stop !)) (look ! 14 refl)) (no-more !)))))) (λ w.
-        use1 W (later (some (λ (r : ℕ). ((‵ (flft (ν ∷ []) fullShare) ⊛ ‵ (flft κ₁ q₁) ⊛ ‵ (flft κ₂ q₂) ⊛ ‵ ftrue) ⊛ ‵ (usize .own r (w ∷ []))) ⊛ raw (ensured 𝓤 H A callee.ended (callee.clauses 𝓤 H A at-mem run) (ν ∷ [], (κ₁, (κ₂, tt))) (xp l₆ γ, (x, (s, (p, (m, tt))))) tt r)))) (id⊢ 𝓤 _) $ await ! tt $ pick ! (λ r.
+        calls-at ! fm (Intern 𝓤 H A at-mem run) known (to ν l₆ γ) (and-then ! (load ! (from ! (stop !)) (look ! 9 refl)) (and-then ! (load ! (from ! (stop !)) (look ! 5 refl))
+        (and-then ! (load ! (from ! (stop !)) (look ! 18 refl)) (and-then ! (load ! (from ! (stop !)) (look ! 16 refl)) (and-then ! (load ! (from ! (stop !)) (look ! 14 refl)) (no-more !)))))) (λ w.
+        use1 W (later (some (λ (r : ℕ). ((‵ (flft (ν ∷ []) fullShare) ⊛ ‵ (flft κ₁ q₁) ⊛ ‵ (flft κ₂ q₂) ⊛ ‵ ftrue) ⊛ ‵ (usize .own r (w ∷ [])))
+        ⊛ raw (ensured 𝓤 H A callee.ended (callee.clauses 𝓤 H A at-mem run) (ν ∷ [], (κ₁, (κ₂, tt))) (xp l₆ γ, (x, (s, (p, (m, tt))))) tt r)))) (id⊢ 𝓤 _) $ await ! tt $ pick ! (λ r.
         -- what `intern` ensures, at some last record and list
-        split ! $ move ! (1 ∷ []) $ use1 W (some (λ (zs : PoolState × (List ℕ × (Unit {0} × (Unit {0} × (Unit {0} × Unit {0}))))). ‵ (lasts callee.ended (ν ∷ [], (κ₁, (κ₂, tt))) (xp l₆ γ, (x, (s, (p, (m, tt))))) zs) ⊛ raw (fact 𝓤 (Said (zs .0) r (zs .1 .0))))) (id⊢ 𝓤 _) $ pick ! (λ zs.
+        split ! $ move ! (1 ∷ []) $ use1 W (some (λ (zs : PoolState × (List ℕ × (Unit {0} × (Unit {0} × (Unit {0} × Unit {0}))))). ‵ (lasts callee.ended (ν ∷ [], (κ₁, (κ₂, tt))) (xp l₆ γ, (x, (s, (p, (m, tt))))) zs)
+        ⊛ raw (fact 𝓤 (Said (zs .0) r (zs .1 .0))))) (id⊢ 𝓤 _) $ pick ! (λ zs.
         split ! $ move ! (1 ∷ []) $ heard ! (Said (zs .0) r (zs .1 .0)) (λ e. fsplit ! $ move ! (1 ∷ []) $ fsplit ! $ fsplit ! $ move ! (1 ∷ []) $ feqL ! (λ l.
         move ! (3 ∷ []) $ split ! $ move ! (1 ∷ []) $ peeks ! usize (Is usize) (shows 𝓤 H A usize) r (w ∷ []) (λ is.
         -- [the result; the tokens; the table's last list; …; the pool's last value; what store owns; the lender's part; _11; …; _0; …]
@@ -209,8 +218,10 @@ module _ {M : Type 1} (𝓤 : URA M) (H : Heap 𝓤) (A : Atoms 𝓤) (W : Given
         use1 W (‵ (fat fullShare T′.mir l₆ 0 (mach (zs .0)))) (W .laws .raw-at fullShare T′.mir l₆ 0 (mach (zs .0))) $
         -- [_6; the tokens; the result; the table's last list; …; what store owns; _11; …; _10; …; _9; …; _8; …; _7; …; (_6's); _5; …; _4; …; _3; …; _2; …; _1; …; room for _0; …]
         assigns ! (of-opd ! (load ! (from ! (fld ! refl (stop !))) (look-in ! 0 (sub ! 0 refl (whole !))))) (from ! (stop !)) (init ! 6 refl (tt, record { fits = used-fits (zs .0) was })) $
-        assigns ! (agg ! (and-then ! (load ! (from ! (stop !)) (look ! 6 refl)) (and-then ! (load ! (from ! (stop !)) (look ! 14 refl)) (no-more !)))) (from ! (stop !)) (init ! 27 refl (tt, (record { fits = used-fits (zs .0) was }, (record { fits = is .1 }, tt)))) $
-        returns ! (look ! 27 refl) $ forget ! 0 refl $ forget ! 6 refl $ forget ! 8 refl $ forget ! 10 refl $ forget ! 12 refl $ forget ! 14 refl $ forget ! 17 refl $ forget ! 19 refl $ forget ! 21 refl $ forget ! 23 refl $ forget ! 25 refl $ forget ! 27 refl $
+        assigns ! (agg ! (and-then ! (load ! (from ! (stop !)) (look ! 6 refl)) (and-then ! (load ! (from ! (stop !)) (look ! 14 refl)) (no-more !))))
+        (from ! (stop !)) (init ! 27 refl (tt, (record { fits = used-fits (zs .0) was }, (record { fits = is .1 }, tt)))) $
+        returns ! (look ! 27 refl) $ forget ! 0 refl $ forget ! 6 refl $ forget ! 8 refl $ forget ! 10 refl $ forget ! 12 refl $
+        forget ! 14 refl $ forget ! 17 refl $ forget ! 19 refl $ forget ! 21 refl $ forget ! 23 refl $ forget ! 25 refl $ forget ! 27 refl $
         move ! (27 ∷ 28 ∷ []) $ free1 ! $ move ! (25 ∷ 26 ∷ []) $ free1 ! $ move ! (23 ∷ 24 ∷ []) $ free1 ! $ move ! (21 ∷ 22 ∷ []) $ free1 ! $ move ! (19 ∷ 20 ∷ []) $ free1 ! $ move ! (17 ∷ 18 ∷ []) $ free1 ! $
         move ! (0 ∷ 16 ∷ []) $ free1 ! $ move ! (13 ∷ 14 ∷ []) $ free1 ! $ move ! (11 ∷ 12 ∷ []) $ free1 ! $ move ! (9 ∷ 10 ∷ []) $ free1 ! $ move ! (7 ∷ 8 ∷ []) $ free1 ! $ move ! (5 ∷ 6 ∷ []) $ free1 ! $ free0 ! $
         keep ! (0 ∷ 2 ∷ 4 ∷ []) $ by ! (exits (zs .0) r (zs .1 .0) e l (used-fits (zs .0) was) (is .1))))))))))))))))))))))))

@@ -211,7 +211,8 @@ module _ {store pool : List ℕ} {base buckets links : ℕ} {heads nexts : List 
         reach i v true q =
             let e = eqb-true i n q in
             let d : base + i ≡ k = omega (arith, g .from) in
-            let f : getD heads′ (bucketOf buckets (entryBytes store pool (base + i))) 0 ≡ suc i = ap (λ (j : ℕ). getD heads′ (bucketOf buckets (entryBytes store pool j)) 0) d ∙ getD-set-same heads (bucketOf buckets x) (n + 1) 0 (omega (arith, g .heads-long)) ∙ omega arith in
+            let f : getD heads′ (bucketOf buckets (entryBytes store pool (base + i))) 0 ≡ suc i =
+            ap (λ (j : ℕ). getD heads′ (bucketOf buckets (entryBytes store pool j)) 0) d ∙ getD-set-same heads (bucketOf buckets x) (n + 1) 0 (omega (arith, g .heads-long)) ∙ omega arith in
             subst (λ (u : ℕ). Reach nexts′ u i) (sym f) (reach-here nexts′ i)
         reach i v false q = let ne = eqb-false i n q in let c : i < m = lower i n links (omega (arith, g .from)) ne in older i _ (g .chained i c) (eqb _ (bucketOf buckets x)) refl
           where

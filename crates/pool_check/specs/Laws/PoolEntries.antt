@@ -11,7 +11,8 @@ use borrow.Author.Tests.{ltb-true}
 use Rattle.payload.specs.Laws.Keeps.{invert, not-ok}
 use Rattle.payload.specs.Numbers.{cutTo, readNumber, varint}
 use Rattle.payload.specs.Reader.{Part, Reader, State, _>>=_, _>>_, byte, here, must, newRow, ok, pure}
-use Rattle.payload.specs.Reading.{Context, Payload, nodeKey, readChunk, readFlagged, readItem, readItems, readKeys, readKids, readLineIndex, readMany, readOne, readPairs, readPayload, readPool, readPoolIndex, readShape, readStarts, readUntagged, readValue, testKey}
+use Rattle.payload.specs.Reading.{Context, Payload, nodeKey, readChunk, readFlagged, readItem, readItems, readKeys, readKids, readLineIndex, readMany}
+use Rattle.payload.specs.Reading.{readOne, readPairs, readPayload, readPool, readPoolIndex, readShape, readStarts, readUntagged, readValue, testKey}
 use Rattle.payload.specs.declared.Capacities.{Capacities}
 use Rattle.payload.specs.Shapes.{ItemKind, Kids, Shape, keys, noValue, oneValue, pairs, shape, values, withChunk, withFields, withKids, withTemplate}
 use Rattle.payload.specs.Spans.{readCode}
@@ -158,7 +159,8 @@ module _ (x : Context) where
     unfolding readShape
     yields-shape t (withKids ks kk) = yields-bind (yields-items ks) (λ is h. yields-bind (yields-kids g kk) (λ ts k. yields-pure (nodeOf t is ts) NodeFrom (node-from t is ts h k)))
     yields-shape t (withChunk ks) = yields-bind (yields-items ks) (λ is h. yields-bind (yields-one (yields-untagged g 32 (ItemKind.code ∷ []) values)) (λ ts k. yields-pure (nodeOf t is ts) NodeFrom (node-from t is ts h k)))
-    yields-shape t (withFields ks) = yields-bind (yields-items ks) (λ is h. yields-after varint (λ n. yields-bind (yields-many (yields-untagged g 33 (ItemKind.string ∷ []) oneValue) n) (λ ts k. yields-pure (nodeOf t is ts) NodeFrom (node-from t is ts h k))))
+    yields-shape t (withFields ks) =
+        yields-bind (yields-items ks) (λ is h. yields-after varint (λ n. yields-bind (yields-many (yields-untagged g 33 (ItemKind.string ∷ []) oneValue) n) (λ ts k. yields-pure (nodeOf t is ts) NodeFrom (node-from t is ts h k))))
     yields-shape t (withTemplate ks) = yields-after here (λ p. yields-bind g (λ f l. yields-check (eqb (f .tag) 7) 11 p (λ e. yields-bind (yields-items ks) (λ is h. yields-after varint (λ n. yields-bind (yields-many g n) (λ ts k.
         yields-pure (nodeOf t is (cons f ts)) NodeFrom (node-from t is (cons f ts) h (cons-from f ts l k))))))))
 
@@ -199,7 +201,9 @@ script-from c listed pool outer line h k = entries-append pool _ _ (cons-from (r
 
 yields-payload : (c : Capacities) (listed : List ℕ → Bool) → Yields (readPayload c listed) ScriptFrom
 unfolding readPayload
-yields-payload c listed = yields-after (readPool (c .strings)) (λ pool. yields-bind (yields-chunk (record { capacities = c; pool = pool; listed = listed })) (λ outer h. yields-bind (yields-line (record { capacities = c; pool = pool; listed = listed })) (λ line k.
+yields-payload c listed = yields-after (readPool (c .strings)) (λ pool.
+    let x : Context = record { capacities = c; pool = pool; listed = listed } in
+    yields-bind (yields-chunk x) (λ outer h. yields-bind (yields-line x) (λ line k.
     yields-pure (record { pool = pool; script = record { outer = outer; line = line } }) ScriptFrom (script-from c listed pool outer line h k))))
 
 pub gathered-entries : (c : Capacities) (listed : List ℕ → Bool) (s : State) (u : Payload) (s′ : State) → readPayload c listed s ≡ ok u s′ → Entries (u .pool) (gathered (u .script))

@@ -171,7 +171,8 @@ unfolding internedParts
 interned-begins l [] = ([], sym (append-nil l))
 interned-begins l (x ∷ xs) = go (hasBytes (x .bytes) l) (interned-begins l xs) (interned-begins (l ++ (x ∷ [])) xs)
   where
-    go : (t : Bool) → (more : List Part) × (internedParts l xs ≡ l ++ more) → (more : List Part) × (internedParts (l ++ (x ∷ [])) xs ≡ (l ++ (x ∷ [])) ++ more) → (more : List Part) × (internedParts (if_then_else_ t l (l ++ (x ∷ []))) xs ≡ l ++ more)
+    go : (t : Bool) → (more : List Part) × (internedParts l xs ≡ l ++ more) → (more : List Part) × (internedParts (l ++ (x ∷ [])) xs ≡ (l ++ (x ∷ [])) ++ more)
+        → (more : List Part) × (internedParts (if_then_else_ t l (l ++ (x ∷ []))) xs ≡ l ++ more)
     go true v w = unfold if_then_else_ in v
     go false v w = unfold if_then_else_ in (x ∷ w .0, w .1 ∙ append-assoc l (x ∷ []) (w .0))
 

@@ -1,6 +1,7 @@
 -- The functions of the scan meet their contracts. The measure is eight times the depth left, and the rank of the function among those of one depth.
 use Rattle.scan_rows.proofs.+scan_entries+scan_fields+scan_template+scan_under+scan_untagged+scan_value+scan_values.{statement}
-use Rattle.scan_rows.proofs.+scan_entries+scan_fields+scan_template+scan_under+scan_untagged+scan_value+scan_values.Proof.Common.{μ-scan-entries, μ-scan-fields, μ-scan-template, μ-scan-under, μ-scan-untagged, μ-scan-value, μ-scan-values}
+use Rattle.scan_rows.proofs.+scan_entries+scan_fields+scan_template+scan_under+scan_untagged+scan_value+scan_values.Proof.Common.{μ-scan-entries, μ-scan-fields, μ-scan-template, μ-scan-under}
+use Rattle.scan_rows.proofs.+scan_entries+scan_fields+scan_template+scan_under+scan_untagged+scan_value+scan_values.Proof.Common.{μ-scan-untagged, μ-scan-value, μ-scan-values}
 use Rattle.scan_rows.proofs.+scan_entries+scan_fields+scan_template+scan_under+scan_untagged+scan_value+scan_values.Proof.Entries.{scan-entries-meets}
 use Rattle.scan_rows.proofs.+scan_entries+scan_fields+scan_template+scan_under+scan_untagged+scan_value+scan_values.Proof.Fields.{scan-fields-meets}
 use Rattle.scan_rows.proofs.+scan_entries+scan_fields+scan_template+scan_under+scan_untagged+scan_value+scan_values.Proof.Template.{scan-template-meets}

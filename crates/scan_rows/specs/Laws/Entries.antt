@@ -45,7 +45,9 @@ leafShape (withTemplate ks) = false
 
 key-leaf : (t : ℕ) → isKeyTag t ≡ true → (leafShape (shape t) ≡ true) × (leb t 26 ≡ true)
 unfolding if_then_else_
-key-leaf t e = let g = go (shape-all (λ t sh. if_then_else_ (isKeyTag t) (leafShape sh and leb t 26) true) (unfold allFrom shapes leafShape isKeyTag _and_ in refl) (unfold isKeyTag _and_ in refl) (unfold isKeyTag _and_ in refl) high t) in (and-left _ _ g, and-right _ _ g)
+key-leaf t e =
+    let g = go (shape-all (λ t sh. if_then_else_ (isKeyTag t) (leafShape sh and leb t 26) true) (unfold allFrom shapes leafShape isKeyTag _and_ in refl) (unfold isKeyTag _and_ in refl) (unfold isKeyTag _and_ in refl) high t) in
+    (and-left _ _ g, and-right _ _ g)
   where
     high : (t : ℕ) → 26 < t → if_then_else_ (isKeyTag t) (leafShape (withKids [] noValue) and leb t 26) true ≡ true
     high t h = unfold isKeyTag _and_ in (rw (ne-eqb t 1 (λ e. omega arith), lt-leb t 6 (omega arith), lt-leb t 24 (omega arith), le-leb 3 t (omega arith), le-leb 19 t (omega arith)))
@@ -140,7 +142,8 @@ module _ (store rows : List ℕ) (width d m at : ℕ) (seen : List (List ℕ)) (
   unfolding if_then_else_
   entry-leads {j} ts e = go (eqb width 1) refl
     where
-      go : (b : Bool) → eqb width 1 ≡ b → Leads (if_then_else_ b (scanKeys (suc m) seen (scanValue store (suc d))) (scanPairs (suc m) seen (scanValue store (suc d))) (atRow rows at)) (if_then_else_ b (scanKeys m (rowKey store rows at ∷ seen) (scanValue store (suc d))) (scanPairs m (rowKey store rows at ∷ seen) (scanValue store (suc d))) (atRow rows j))
+      go : (b : Bool) → eqb width 1 ≡ b → Leads (if_then_else_ b (scanKeys (suc m) seen (scanValue store (suc d))) (scanPairs (suc m) seen (scanValue store (suc d))) (atRow rows at))
+          (if_then_else_ b (scanKeys m (rowKey store rows at ∷ seen) (scanValue store (suc d))) (scanPairs m (rowKey store rows at ∷ seen) (scanValue store (suc d))) (atRow rows j))
       go true q = rw (← (set-entry (eqb-true width 1 q) e), ← (key-of-node store rows at)) (keys-step (scanValue store (suc d)) m seen (atRow rows at) (keyNode store rows at) (key-scanned store rows at d seen f n))
       go false q = let v = map-entry (eqb-false width 1 q) e in rw (← (key-of-node store rows at)) (pairs-step (scanValue store (suc d)) m seen (atRow rows at) (keyNode store rows at) (v .0) (key-scanned store rows at d seen f n) (v .1))
 
@@ -191,7 +194,8 @@ is-false true e = sym e
 is-false false e = refl
 
 -- the keys of the rows before make the same test as those that the definition has seen
-seen-test : {store rows : List ℕ} {width d n i k at : ℕ} (s : Keyed store rows width d n i k at) (b : Bool) → (keyFits store rows at and not (isIn (rowKey store rows at) (s .its-keys))) ≡ b → (keyFits store rows at and not (isIn (rowKey store rows at) (s .seen))) ≡ b
+seen-test : {store rows : List ℕ} {width d n i k at : ℕ} (s : Keyed store rows width d n i k at) (b : Bool) → (keyFits store rows at and not (isIn (rowKey store rows at) (s .its-keys))) ≡ b
+    → (keyFits store rows at and not (isIn (rowKey store rows at) (s .seen))) ≡ b
 seen-test {store} {rows} {at = at} s b e = rw (s .alike (rowKey store rows at)) e
 
 module _ {store rows : List ℕ} {width n i k at : ℕ} where

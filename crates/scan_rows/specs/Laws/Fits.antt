@@ -177,7 +177,8 @@ module _ (store rows : List ℕ) (i : ℕ) (w : (k : ℕ) → wordAt rows i k < 
 -- the second item begins at word 3 at most
 pub second-low : (t : ℕ) → secondWord t ≤ 3
 unfolding secondWord
-second-low t = leb-true _ _ (shape-all (λ t sh. leb (afterFirst (kindsOf sh)) 3) (unfold allFrom shapes afterFirst kindWidth kindsOf _and_ in refl) (unfold afterFirst kindWidth kindsOf in refl) (unfold afterFirst kindWidth kindsOf in refl) (λ t h. unfold afterFirst kindsOf in refl) t)
+second-low t = leb-true _ _ (shape-all (λ t sh. leb (afterFirst (kindsOf sh)) 3) (unfold allFrom shapes afterFirst kindWidth kindsOf _and_ in refl)
+    (unfold afterFirst kindWidth kindsOf in refl) (unfold afterFirst kindWidth kindsOf in refl) (λ t h. unfold afterFirst kindsOf in refl) t)
 
 -- a row that has a count has it at word 4 at most
 pub count-low : (t : ℕ) → 2 ≤ underRules t → countWord t ≤ 4

@@ -104,12 +104,14 @@ module _ (store rows : List ℕ) where
 
     pub lengths-differ : tagAt rows a ≡ 6 → (wordAt rows a 2 ≡ wordAt rows b 2 → ⊥) → same (rowKey store rows b) (rowKey store rows a) ≡ false
     unfolding same
-    lengths-differ t h = rw (string-key-is b (sym e ∙ t), string-key-is a t) (same-long (take (wordAt rows b 2) (drop (wordAt rows b 1) store)) (take (wordAt rows a 2) (drop (wordAt rows a 1) store)) (λ z. h (sym (long a (key-part store rows a fa t)) ∙ sym z ∙ long b (key-part store rows b fb (sym e ∙ t)))))
+    lengths-differ t h = rw (string-key-is b (sym e ∙ t), string-key-is a t) (same-long (take (wordAt rows b 2) (drop (wordAt rows b 1) store))
+        (take (wordAt rows a 2) (drop (wordAt rows a 1) store)) (λ z. h (sym (long a (key-part store rows a fa t)) ∙ sym z ∙ long b (key-part store rows b fb (sym e ∙ t)))))
       where
         long : (i : ℕ) → wordAt rows i 1 + wordAt rows i 2 ≤ length store → length (take (wordAt rows i 2) (drop (wordAt rows i 1) store)) ≡ wordAt rows i 2
         long i h = length-take-le (wordAt rows i 2) (drop (wordAt rows i 1) store) (rw (length-drop (wordAt rows i 1) store) (omega arith))
 
-    pub strings-same : {n v w : ℕ} → tagAt rows a ≡ 6 → n ≡ wordAt rows a 2 → n ≡ wordAt rows b 2 → v ≡ wordAt rows a 1 → w ≡ wordAt rows b 1 → same (take n (drop w store)) (take n (drop v store)) ≡ same (rowKey store rows b) (rowKey store rows a)
+    pub strings-same : {n v w : ℕ} → tagAt rows a ≡ 6 → n ≡ wordAt rows a 2 → n ≡ wordAt rows b 2 → v ≡ wordAt rows a 1 → w ≡ wordAt rows b 1
+        → same (take n (drop w store)) (take n (drop v store)) ≡ same (rowKey store rows b) (rowKey store rows a)
     unfolding same
     strings-same {n} {v} {w} t en em ev ew = rw (string-key-is b (sym e ∙ t), string-key-is a t, ← en, ← em, ← ev, ← ew)
 

@@ -84,20 +84,23 @@ module _ (store rows : List ℕ) (b : WholeRows rows) (R : RowScan) (i : ℕ) wh
   under-33 e = (rw e, rw e)
 
   -- from the rows under it
-  head-found : {n : ℕ} {r : Scan} (t : ℕ) (kinds : List ItemKind) (kids : Kids) → shape t ≡ withKids kinds kids → headFits store rows t i ≡ true → scanUnder store R (shape (tagAt rows i)) (countAt rows i) ≡ readMany n (R anyRow) → rowsUnder rows i ≡ n
+  head-found : {n : ℕ} {r : Scan} (t : ℕ) (kinds : List ItemKind) (kids : Kids) → shape t ≡ withKids kinds kids → headFits store rows t i ≡ true → scanUnder store R (shape (tagAt rows i)) (countAt rows i) ≡ readMany n (R anyRow)
+      → rowsUnder rows i ≡ n
       → Scanned rows n (i + 1) r (readMany n (R anyRow) (atRow rows (i + 1))) → Scanned rows 1 i r (scanUntagged store R t kinds kids (atRow rows i))
   head-found {n} t kinds kids es f eu en s =
       let e : scanUnder store R (shape (tagAt rows i)) (countAt rows i) (atRow rows (i + 1)) ≡ readMany n (R anyRow) (atRow rows (i + 1)) = ap (λ (g : Reader (Trees Part)). g (atRow rows (i + 1))) eu in
       found-by (leads-then (untagged-leads store rows i R t kinds kids es f) (leads-is e)) (λ k q. skip-row (head-tag t f .0) (sym en) q) s
 
-  pub chunk-found : {t n : ℕ} {r : Scan} → t ≡ 32 → headFits store rows t i ≡ true → n ≡ wordAt rows i 3 → Scanned rows n (i + 1) r (readMany n (R anyRow) (atRow rows (i + 1))) → Scanned rows 1 i r (scanChunkOrField store R t (atRow rows i))
+  pub chunk-found : {t n : ℕ} {r : Scan} → t ≡ 32 → headFits store rows t i ≡ true → n ≡ wordAt rows i 3 → Scanned rows n (i + 1) r (readMany n (R anyRow) (atRow rows (i + 1)))
+      → Scanned rows 1 i r (scanChunkOrField store R t (atRow rows i))
   unfolding if_then_else_
   chunk-found {t} {n} {r} e f en s =
       let g : headFits store rows 32 i ≡ true = rw e at f in
       let u = under-32 (head-tag 32 g .1) in
       rw (eq-eqb t 32 e) (head-found 32 (ItemKind.code ∷ []) values shape-32 g (u .0 ∙ ap (λ (m : ℕ). readMany m (R anyRow)) (sym en)) (u .1 ∙ sym en) s)
 
-  pub field-found : {t : ℕ} {r : Scan} → 32 ≤ t → t ≤ 33 → (t ≡ 32 → ⊥) → headFits store rows t i ≡ true → Scanned rows 1 (i + 1) r (readMany 1 (R anyRow) (atRow rows (i + 1))) → Scanned rows 1 i r (scanChunkOrField store R t (atRow rows i))
+  pub field-found : {t : ℕ} {r : Scan} → 32 ≤ t → t ≤ 33 → (t ≡ 32 → ⊥) → headFits store rows t i ≡ true → Scanned rows 1 (i + 1) r (readMany 1 (R anyRow) (atRow rows (i + 1)))
+      → Scanned rows 1 i r (scanChunkOrField store R t (atRow rows i))
   unfolding if_then_else_
   field-found {t} {r} l h ne f s =
       let e : t ≡ 33 = omega arith in

@@ -66,7 +66,8 @@ module _ (rows : List ℕ) where
           let e : k + 1 + 1 ≡ k + 2 = omega arith in
           rw (next-word i k (omega arith), next-word i (k + 1) (omega arith), must-pass, and-pass, e)
 
-      string-scanned : (k : ℕ) → k + 2 ≤ rowWidth → scanString store (atWord rows i k) ≡ pass (partIsUtf8 store (wordAt rows i k) (wordAt rows i (k + 1))) i (ok (partAt store (wordAt rows i k) (wordAt rows i (k + 1))) (atWord rows i (k + 2)))
+      string-scanned : (k : ℕ) → k + 2 ≤ rowWidth
+          → scanString store (atWord rows i k) ≡ pass (partIsUtf8 store (wordAt rows i k) (wordAt rows i (k + 1))) i (ok (partAt store (wordAt rows i k) (wordAt rows i (k + 1))) (atWord rows i (k + 2)))
       unfolding scanString pure partIsUtf8 _>>=_ _>>_ andThen
       string-scanned k h = rw (part-scanned k h, and-pass, must-pass, and-pass, pass-both)
 
@@ -113,7 +114,8 @@ module _ (rows : List ℕ) where
         with-kids-scanned kinds kids h =
             let c = count-scanned kids (1 + kindsWidth kinds) (omega arith) in
             let e : 1 + kindsWidth kinds + length (kidsCountWords kids 0) ≡ suc (kindsWidth kinds + length (kidsCountWords kids 0)) = omega arith in
-            rw (items-scanned kinds 1 (omega arith), and-pass, c .1, e, finish-scanned (rowWidth - suc (kindsWidth kinds + length (kidsCountWords kids 0))) (suc (kindsWidth kinds + length (kidsCountWords kids 0))) (g t (forgetItems (itemsOf store rows i 1 kinds))) (omega arith), and-pass, and-pass, c .2 r)
+            let done = finish-scanned (rowWidth - suc (kindsWidth kinds + length (kidsCountWords kids 0))) (suc (kindsWidth kinds + length (kidsCountWords kids 0))) (g t (forgetItems (itemsOf store rows i 1 kinds))) (omega arith) in
+            rw (items-scanned kinds 1 (omega arith), and-pass, c .1, e, done, and-pass, and-pass, c .2 r)
 
         shape-scanned : (sh : Shape) → suc (kindsWidth (kindsOf sh) + length (countWords sh 0)) ≤ rowWidth
             → scanShape store r g t sh (atWord rows i 1) ≡ headed sh (g t (forgetItems (itemsOf store rows i 1 (kindsOf sh)))) (withUnder r t sh)
@@ -121,13 +123,17 @@ module _ (rows : List ℕ) where
         shape-scanned (withKids kinds kids) h = with-kids-scanned kinds kids h
         shape-scanned (withChunk kinds) h =
             let e : 1 + kindsWidth kinds ≡ suc (kindsWidth kinds + 0) = omega arith in
-            rw (items-scanned kinds 1 (omega arith), and-pass, e, finish-scanned (rowWidth - suc (kindsWidth kinds + 0)) (suc (kindsWidth kinds + 0)) (g t (forgetItems (itemsOf store rows i 1 kinds))) (omega arith), and-pass, and-pass)
+            let done = finish-scanned (rowWidth - suc (kindsWidth kinds + 0)) (suc (kindsWidth kinds + 0)) (g t (forgetItems (itemsOf store rows i 1 kinds))) (omega arith) in
+            rw (items-scanned kinds 1 (omega arith), and-pass, e, done, and-pass, and-pass)
         shape-scanned (withFields kinds) h =
             let e : 1 + kindsWidth kinds + 1 ≡ suc (kindsWidth kinds + 1) = omega arith in
-            rw (items-scanned kinds 1 (omega arith), and-pass, next-word i (1 + kindsWidth kinds) (omega arith), e, finish-scanned (rowWidth - suc (kindsWidth kinds + 1)) (suc (kindsWidth kinds + 1)) (g t (forgetItems (itemsOf store rows i 1 kinds))) (omega arith), and-pass, and-pass)
+            let done = finish-scanned (rowWidth - suc (kindsWidth kinds + 1)) (suc (kindsWidth kinds + 1)) (g t (forgetItems (itemsOf store rows i 1 kinds))) (omega arith) in
+            rw (items-scanned kinds 1 (omega arith), and-pass, next-word i (1 + kindsWidth kinds) (omega arith), e, done, and-pass, and-pass)
         shape-scanned (withTemplate kinds) h =
             let e : 1 + kindsWidth kinds + 1 ≡ suc (kindsWidth kinds + 1) = omega arith in
-            rw (items-scanned kinds 1 (omega arith), and-pass, next-word i (1 + kindsWidth kinds) (omega arith), e, finish-scanned (rowWidth - suc (kindsWidth kinds + 1)) (suc (kindsWidth kinds + 1)) (g t (forgetItems (itemsOf store rows i 1 kinds))) (omega arith), and-pass, and-pass, made-twice (r isFunction (atRow rows (i + 1))) (readMany (wordAt rows i (1 + kindsWidth kinds)) (r anyRow)) cons (λ ts. nodeOf t (itemsOf store rows i 1 kinds) ts))
+            let done = finish-scanned (rowWidth - suc (kindsWidth kinds + 1)) (suc (kindsWidth kinds + 1)) (g t (forgetItems (itemsOf store rows i 1 kinds))) (omega arith) in
+            let under = made-twice (r isFunction (atRow rows (i + 1))) (readMany (wordAt rows i (1 + kindsWidth kinds)) (r anyRow)) cons (λ ts. nodeOf t (itemsOf store rows i 1 kinds) ts) in
+            rw (items-scanned kinds 1 (omega arith), and-pass, next-word i (1 + kindsWidth kinds) (omega arith), e, done, and-pass, and-pass, under)
 
 ---- whole rows
 

@@ -90,7 +90,8 @@ module _ (store rows : List ℕ) (i : ℕ) where
     untagged-leads h =
         let a = and-left (ltb i (rowCount rows) and eqb (tagAt rows i) t) (rowFits store rows i) h in
         let u : i < rowCount rows = ltb-true _ _ (and-left _ _ a) in
-        let e : scanUntagged store R t kinds kids (atRow rows i) ≡ rowWith store rows R i = untagged-scanned store rows i u R t kinds kids es ∙ rw (and-right (ltb i (rowCount rows)) _ a, and-right (ltb i (rowCount rows) and eqb (tagAt rows i) t) _ h) in
+        let e : scanUntagged store R t kinds kids (atRow rows i) ≡ rowWith store rows R i =
+        untagged-scanned store rows i u R t kinds kids es ∙ rw (and-right (ltb i (rowCount rows)) _ a, and-right (ltb i (rowCount rows) and eqb (tagAt rows i) t) _ h) in
         leads-then (leads-is e) (row-leads R)
 
     pub untagged-bad : length rows ≡ rowWidth * rowCount rows → headFits store rows t i ≡ false → scanUntagged store R t kinds kids (atRow rows i) ≡ refused 17 i

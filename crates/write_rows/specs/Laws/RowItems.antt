@@ -146,8 +146,10 @@ module _ (s : List ℕ) (l : List (List ℕ)) (ss : List Span) where
   items-written [] (x ∷ is) ws w c q i h p e = false≢true q
   items-written (k ∷ []) [] ws w c q i h p e = false≢true q
   items-written (k ∷ k′ ∷ []) [] ws w c q i h p e = false≢true q
-  items-written (k ∷ []) (x ∷ []) ws w c q i h p e = rw (of-kind k x (and-left _ _ q))
-      (ap₂ (λ (y z : List ℕ). y ++ z) (item-written x (w 1) (w 2) ([] ++ ws) (e 0 (omega arith) ∙ ap (λ (v : List ℕ). getD v 0 0) (append-assoc (itemWords x) [] ws)) (e 1 (omega arith) ∙ ap (λ (v : List ℕ). getD v 1 0) (append-assoc (itemWords x) [] ws)) (i .0) (and-left _ _ h) (p .0)) (item-none _ _))
+  items-written (k ∷ []) (x ∷ []) ws w c q i h p e =
+      let at : (n : ℕ) → n < 2 → w (1 + n) ≡ getD (itemWords x ++ ([] ++ ws)) n 0 = λ n hn. e n (omega arith) ∙ ap (λ (v : List ℕ). getD v n 0) (append-assoc (itemWords x) [] ws) in
+      rw (of-kind k x (and-left _ _ q))
+      (ap₂ (λ (y z : List ℕ). y ++ z) (item-written x (w 1) (w 2) ([] ++ ws) (at 0 (omega arith)) (at 1 (omega arith)) (i .0) (and-left _ _ h) (p .0)) (item-none _ _))
   items-written (k ∷ []) (x ∷ y ∷ is) ws w c q i h p e = false≢true (and-right (sameKind k (kindOf (forgetItem x))) _ q)
   items-written (k ∷ k′ ∷ []) (x ∷ []) ws w c q i h p e = false≢true (and-right (sameKind k (kindOf (forgetItem x))) _ q)
   items-written (k ∷ k′ ∷ []) (x ∷ y ∷ []) ws w c q i h p e =
@@ -158,10 +160,16 @@ module _ (s : List ℕ) (l : List (List ℕ)) (ss : List Span) where
       let again : (itemWords x ++ (itemWords y ++ [])) ++ ws ≡ itemWords x ++ (itemWords y ++ ws) = append-assoc (itemWords x) (itemWords y ++ []) ws ∙ ap (λ (v : List ℕ). itemWords x ++ v) (append-assoc (itemWords y) [] ws) in
       let at : (n : ℕ) → n < 2 → w (1 + kindWidth k + n) ≡ getD (itemWords y ++ ws) n 0 = λ n hn.
       let z : 1 + kindWidth k + n ≡ 1 + (kindWidth k + n) = omega arith in
-      ap w z ∙ e (kindWidth k + n) (omega arith) ∙ ap (λ (v : List ℕ). getD v (kindWidth k + n) 0) again ∙ ap (λ (m : ℕ). getD (itemWords x ++ (itemWords y ++ ws)) (m + n) 0) (sym lx) ∙ getD-append-add (itemWords x) (itemWords y ++ ws) n 0 in
-      let first : itemBytes s l ss (itemForm k) (w 1) (w 2) ≡ writeItem l (forgetItem x) = ap (λ (m : ItemKind). itemBytes s l ss (itemForm m) (w 1) (w 2)) ek ∙ item-written x (w 1) (w 2) (itemWords y ++ ws) (e 0 (omega arith) ∙ ap (λ (v : List ℕ). getD v 0 0) again) (e 1 (omega arith) ∙ ap (λ (v : List ℕ). getD v 1 0) again) (i .0) (and-left _ _ h) (p .0) in
+      ap w z ∙ e (kindWidth k + n) (omega arith)
+      ∙ ap (λ (v : List ℕ). getD v (kindWidth k + n) 0) again ∙ ap (λ (m : ℕ). getD (itemWords x ++ (itemWords y ++ ws)) (m + n) 0) (sym lx) ∙ getD-append-add (itemWords x) (itemWords y ++ ws) n 0 in
+      let first : itemBytes s l ss (itemForm k) (w 1) (w 2) ≡ writeItem l (forgetItem x) =
+      ap (λ (m : ItemKind). itemBytes s l ss (itemForm m) (w 1) (w 2)) ek
+      ∙ item-written x (w 1) (w 2) (itemWords y ++ ws) (e 0 (omega arith) ∙ ap (λ (v : List ℕ). getD v 0 0) again) (e 1 (omega arith) ∙ ap (λ (v : List ℕ). getD v 1 0) again) (i .0) (and-left _ _ h) (p .0) in
       let z0 : 1 + kindWidth k ≡ 1 + kindWidth k + 0 = omega arith in
-      let second : itemBytes s l ss (itemForm k′) (w (1 + kindWidth k)) (w (1 + kindWidth k + 1)) ≡ writeItem l (forgetItem y) = ap (λ (m : ItemKind). itemBytes s l ss (itemForm m) (w (1 + kindWidth k)) (w (1 + kindWidth k + 1))) ek′ ∙ item-written y (w (1 + kindWidth k)) (w (1 + kindWidth k + 1)) ws (ap w z0 ∙ at 0 (omega arith)) (at 1 (omega arith)) (i .1 .0) (and-left _ _ (and-right _ _ h)) (p .1 .0) in
+      let a = w (1 + kindWidth k) in
+      let b = w (1 + kindWidth k + 1) in
+      let second : itemBytes s l ss (itemForm k′) a b ≡ writeItem l (forgetItem y) =
+      ap (λ (m : ItemKind). itemBytes s l ss (itemForm m) a b) ek′ ∙ item-written y a b ws (ap w z0 ∙ at 0 (omega arith)) (at 1 (omega arith)) (i .1 .0) (and-left _ _ (and-right _ _ h)) (p .1 .0) in
       ap₂ (λ (m n : List ℕ). m ++ n) first (second ∙ sym (append-nil _))
   items-written (k ∷ k′ ∷ []) (x ∷ y ∷ z ∷ is) ws w c q i h p e = false≢true (and-right (sameKind k′ (kindOf (forgetItem y))) _ (and-right (sameKind k (kindOf (forgetItem x))) _ q))
   items-written (k ∷ k′ ∷ k″ ∷ kn) [] ws w c q i h p e = false≢true q

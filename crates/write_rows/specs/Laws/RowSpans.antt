@@ -126,7 +126,8 @@ cf-rest ItemKind.recordName kn c = c
 cf-rest ItemKind.code kn c = c
 
 module _ (s : List ℕ) where
-  coded-plain : (k : ItemKind) (kn : List ItemKind) (x : Item Part) (is : List (Item Part)) (a b : ℕ) → k ≡ kindOf x → isCode (kindOf x) ≡ false → noCode kn ≡ true → sameKinds kn (forgetItems is) ≡ true → Spanned x (itemsSpans (x ∷ is)) → Coded s (k ∷ kn) (x ∷ is) a b
+  coded-plain : (k : ItemKind) (kn : List ItemKind) (x : Item Part) (is : List (Item Part)) (a b : ℕ)
+      → k ≡ kindOf x → isCode (kindOf x) ≡ false → noCode kn ≡ true → sameKinds kn (forgetItems is) ≡ true → Spanned x (itemsSpans (x ∷ is)) → Coded s (k ∷ kn) (x ∷ is) a b
   unfolding AllSpanned firstOf if_then_else_
   coded-plain k kn x is a b e c n q p = let bare = no-span x is c (no-spans kn is n q) in record {
     spanned = (p, no-spanned kn is _ n q);
@@ -134,8 +135,8 @@ module _ (s : List ℕ) where
     long = rw (first-not k (ap isCode e ∙ c)) (sym (bare .1));
   }
 
-  coded-code : (k : ItemKind) (kn : List ItemKind) (l : Part) (ss : List Span) (is : List (Item Part)) (a b : ℕ) (ws : List ℕ) → k ≡ ItemKind.code → noCode kn ≡ true → sameKinds kn (forgetItems is) ≡ true → InStore s l → eqb (length ss) (length (l .bytes)) ≡ true
-      → a ≡ l .offset → b ≡ length (l .bytes) → Coded s (k ∷ kn) (code l ss ∷ is) a b
+  coded-code : (k : ItemKind) (kn : List ItemKind) (l : Part) (ss : List Span) (is : List (Item Part)) (a b : ℕ) (ws : List ℕ) → k ≡ ItemKind.code → noCode kn ≡ true → sameKinds kn (forgetItems is) ≡ true → InStore s l
+      → eqb (length ss) (length (l .bytes)) ≡ true → a ≡ l .offset → b ≡ length (l .bytes) → Coded s (k ∷ kn) (code l ss ∷ is) a b
   unfolding AllSpanned Spanned firstOf itemForm if_then_else_ itemsSpans spanItems spanItem forgetItems forgetItem bytesAt
   coded-code k kn l ss is a b ws e n q i z ea eb =
       let bare = no-spans kn is n q in

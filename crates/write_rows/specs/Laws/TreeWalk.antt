@@ -104,6 +104,17 @@ module _ (s : List ℕ) (l : List (List ℕ)) (R S : List ℕ) where
   abbrev u : ℕ
   u = rowCount R
 
+  -- the bytes of these items
+  abbrev written : List (Item Part) → List ℕ
+  written is = writeItems l (forgetItems is)
+
+  -- of the row i with the tag t, by the form v of what is under it: the bytes of its count, and how many are under it
+  abbrev countBytes : ℕ → ℕ → ℕ → List ℕ
+  countBytes t i v = if_then_else_ (leb 2 v) (uleb128 (rowWord R i (countWord t))) []
+
+  abbrev beneath : ℕ → ℕ → ℕ → ℕ
+  beneath t i v = if_then_else_ (eqb v 0) 0 (if_then_else_ (eqb v 1) 1 (if_then_else_ (eqb v 3) (2 * min (rowWord R i (countWord t)) u) (min (rowWord R i (countWord t)) u)))
+
   module _ (t : ℕ) (is : List (Item Part)) (n i : ℕ) (rest : List ℕ) (here : drop (rowWidth * i) R ≡ rowWords t is n ++ rest) (kinds : sameKinds (kindsOf (shape t)) (forgetItems is) ≡ true)
       (ins : InItems s is) (all : allOf itemSound (forgetItems is) ≡ true) where
     word-is : (k : ℕ) → k < rowWidth → rowWord R i k ≡ getD (rowWords t is n ++ rest) k 0
@@ -128,7 +139,10 @@ module _ (s : List ℕ) (l : List (List ℕ)) (R S : List ℕ) where
     -- the tag, the items, the count and the unused words are five
     five : length (itemsWords is) + (length (countWords (shape t) n) + unusedWords (shape t)) ≡ 4
     unfolding rowWords
-    five = omega (arith, row-width t is n kinds, length-append (itemsWords is) (countWords (shape t) n ++ replicate (unusedWords (shape t)) 0), length-append (countWords (shape t) n) (replicate (unusedWords (shape t)) 0), length-replicate {A = ℕ} (unusedWords (shape t)) 0)
+    five =
+        let count = countWords (shape t) n in
+        let unused : List ℕ = replicate (unusedWords (shape t)) 0 in
+        omega (arith, row-width t is n kinds, length-append (itemsWords is) (count ++ unused), length-append count unused, length-replicate {A = ℕ} (unusedWords (shape t)) 0)
 
     code-is : Coded s (kindsOf (shape t)) is (rowWord R i 1) (rowWord R i 2)
     code-is = coded s (kindsOf (shape t)) is after (rowWord R i 1) (rowWord R i 2) (first (shape t) (fine-shape t)) kinds ins all (word-more 0 (omega arith)) (word-more 1 (omega arith))
@@ -140,11 +154,12 @@ module _ (s : List ℕ) (l : List (List ℕ)) (R S : List ℕ) where
         let g = five in
         let h = ap length e in
         let z : kindsWidth (kindsOf (shape t)) ≡ length (itemsWords is) + 0 = omega (arith, wide) in
-        word-more (kindsWidth (kindsOf (shape t))) (omega (arith, wide)) ∙ ap (λ (k : ℕ). getD (itemsWords is ++ after) k 0) z ∙ getD-append-add (itemsWords is) after 0 0 ∙ unfold after in (ap (λ (v : List ℕ). getD ((v ++ replicate (unusedWords (shape t)) 0) ++ rest) 0 0) e)
+        word-more (kindsWidth (kindsOf (shape t))) (omega (arith, wide)) ∙ ap (λ (k : ℕ). getD (itemsWords is ++ after) k 0) z
+        ∙ getD-append-add (itemsWords is) after 0 0 ∙ unfold after in (ap (λ (v : List ℕ). getD ((v ++ replicate (unusedWords (shape t)) 0) ++ rest) 0 0) e)
 
-    items-are : itemsBytes H i (itemsSpans is) ≡ writeItems l (forgetItems is) ++ if_then_else_ (leb 2 (underForm t)) (uleb128 (rowWord R i (countWord t))) []
+    items-are : itemsBytes H i (itemsSpans is) ≡ written is ++ countBytes t i (underForm t)
     unfolding itemsBytes firstForm secondForm secondWord
-    items-are = rw tag-is (ap (λ (v : List ℕ). v ++ if_then_else_ (leb 2 (underForm t)) (uleb128 (rowWord R i (countWord t))) []) (items-written s l (itemsSpans is) (kindsOf (shape t)) is after (rowWord R i) (few (shape t) (fine-shape t)) kinds ins all (code-is .spanned) word-more))
+    items-are = rw tag-is (ap (λ (v : List ℕ). v ++ countBytes t i (underForm t)) (items-written s l (itemsSpans is) (kindsOf (shape t)) is after (rowWord R i) (few (shape t) (fine-shape t)) kinds ins all (code-is .spanned) word-more))
 
     -- the row's spans
     module _ (j : ℕ) (more : List Span) (rest′ : List ℕ) (there : drop (2 * j) S ≡ spanWords (itemsSpans is ++ more) ++ rest′) (room : j ≤ length S / 2) where
@@ -170,17 +185,18 @@ module _ (s : List ℕ) (l : List (List ℕ)) (R S : List ℕ) where
 
       -- the bytes after the tag
       unfoldable pub tail : List ℕ
-      tail = writeItems l (forgetItems is) ++ if_then_else_ (leb 2 (underForm t)) (uleb128 (rowWord R i (countWord t))) []
+      tail = written is ++ countBytes t i (underForm t)
 
       before-is : headBytes H i (rowSpans H i j) ≡ tagByte t ++ if_then_else_ (eqb (underForm t) 4) [] tail
       unfolding headBytes tail
       before-is = ap (λ (v : List Span). tagByte (rowWord R i 0) ++ if_then_else_ (eqb (underForm (rowWord R i 0)) 4) [] (itemsBytes H i v)) spans-of
-          ∙ ap (λ (v : List ℕ). tagByte (rowWord R i 0) ++ if_then_else_ (eqb (underForm (rowWord R i 0)) 4) [] v) items-are ∙ ap (λ (k : ℕ). tagByte k ++ if_then_else_ (eqb (underForm k) 4) [] (writeItems l (forgetItems is) ++ if_then_else_ (leb 2 (underForm t)) (uleb128 (rowWord R i (countWord t))) [])) tag-is
+          ∙ ap (λ (v : List ℕ). tagByte (rowWord R i 0) ++ if_then_else_ (eqb (underForm (rowWord R i 0)) 4) [] v) items-are
+          ∙ ap (λ (k : ℕ). tagByte k ++ if_then_else_ (eqb (underForm k) 4) [] (written is ++ countBytes t i (underForm t))) tag-is
 
       module _ (f : ℕ → ℕ → ℕ → Walked) (es : List (List ℕ)) (i′ j′ : ℕ) where
         -- a row that is no closure
-        pub row-plain : (b : ℕ) → eqb (underForm t) 4 ≡ false → rowsUnder H i ≡ b → f b (i + 1) (j + spanItems (forgetItems is)) ≡ walked (concat es) i′ j′ → writeRow (writeItems l (forgetItems is)) (shape t) es ≡ tail ++ concat es
-            → walkRow H f i j ≡ walked (tagByte t ++ writeRow (writeItems l (forgetItems is)) (shape t) es) i′ j′
+        pub row-plain : (b : ℕ) → eqb (underForm t) 4 ≡ false → rowsUnder H i ≡ b → f b (i + 1) (j + spanItems (forgetItems is)) ≡ walked (concat es) i′ j′ → writeRow (written is) (shape t) es ≡ tail ++ concat es
+            → walkRow H f i j ≡ walked (tagByte t ++ writeRow (written is) (shape t) es) i′ j′
         unfolding walkRow andWalk if_then_else_
         row-plain b c e g a =
             let head : headBytes H i (rowSpans H i j) ≡ tagByte t ++ tail = before-is ∙ rw c in
@@ -189,59 +205,64 @@ module _ (s : List ℕ) (l : List (List ℕ)) (R S : List ℕ) where
             rw c′ (ap₂ (λ (v : List ℕ) (w : Walked). walked (v ++ w .bytes) (w .row) (w .span)) head k ∙ ap (λ (v : List ℕ). walked v i′ j′) (append-assoc (tagByte t) tail (concat es) ∙ ap (λ (v : List ℕ). tagByte t ++ v) (sym a)))
 
         -- how many are under it, by the number of its shape
-        beneath-is : (v : ℕ) → underForm t ≡ v → rowsUnder H i ≡ if_then_else_ (eqb v 0) 0 (if_then_else_ (eqb v 1) 1 (if_then_else_ (eqb v 3) (2 * min (rowWord R i (countWord t)) u) (min (rowWord R i (countWord t)) u)))
+        beneath-is : (v : ℕ) → underForm t ≡ v → rowsUnder H i ≡ beneath t i v
         unfolding rowsUnder
         beneath-is v e = rw (tag-is, e)
 
-        tail-is : (v : ℕ) → underForm t ≡ v → tail ≡ writeItems l (forgetItems is) ++ if_then_else_ (leb 2 v) (uleb128 (rowWord R i (countWord t))) []
+        tail-is : (v : ℕ) → underForm t ≡ v → tail ≡ written is ++ countBytes t i v
         unfolding tail
         tail-is v e = rw e
 
         -- a row with no count: so many under it
         row-bare : (v b : ℕ) → underForm t ≡ v → eqb v 4 ≡ false → leb 2 v ≡ false → rowsUnder H i ≡ b → f b (i + 1) (j + spanItems (forgetItems is)) ≡ walked (concat es) i′ j′
-            → writeRow (writeItems l (forgetItems is)) (shape t) es ≡ writeItems l (forgetItems is) ++ concat es → walkRow H f i j ≡ walked (tagByte t ++ writeRow (writeItems l (forgetItems is)) (shape t) es) i′ j′
+            → writeRow (written is) (shape t) es ≡ written is ++ concat es → walkRow H f i j ≡ walked (tagByte t ++ writeRow (written is) (shape t) es) i′ j′
         unfolding if_then_else_
-        row-bare v b ev c m e g a = let z : tail ≡ writeItems l (forgetItems is) = tail-is v ev ∙ ap (λ (k : Bool). writeItems l (forgetItems is) ++ if_then_else_ k (uleb128 (rowWord R i (countWord t))) []) m ∙ append-nil (writeItems l (forgetItems is)) in
+        row-bare v b ev c m e g a =
+            let z : tail ≡ written is = tail-is v ev ∙ ap (λ (k : Bool). written is ++ if_then_else_ k (uleb128 (rowWord R i (countWord t))) []) m ∙ append-nil (written is) in
             row-plain b (ap (λ (k : ℕ). eqb k 4) ev ∙ c) e g (a ∙ ap (λ (x : List ℕ). x ++ concat es) (sym z))
 
         -- a row with a count
         row-counted : (v b c : ℕ) → underForm t ≡ v → eqb v 4 ≡ false → leb 2 v ≡ true → rowWord R i (countWord t) ≡ c → rowsUnder H i ≡ b → f b (i + 1) (j + spanItems (forgetItems is)) ≡ walked (concat es) i′ j′
-            → writeRow (writeItems l (forgetItems is)) (shape t) es ≡ writeItems l (forgetItems is) ++ (uleb128 c ++ concat es) → walkRow H f i j ≡ walked (tagByte t ++ writeRow (writeItems l (forgetItems is)) (shape t) es) i′ j′
+            → writeRow (written is) (shape t) es ≡ written is ++ (uleb128 c ++ concat es) → walkRow H f i j ≡ walked (tagByte t ++ writeRow (written is) (shape t) es) i′ j′
         unfolding if_then_else_
-        row-counted v b c ev q m ec e g a = let z : tail ≡ writeItems l (forgetItems is) ++ uleb128 c = tail-is v ev ∙ ap (λ (k : Bool). writeItems l (forgetItems is) ++ if_then_else_ k (uleb128 (rowWord R i (countWord t))) []) m ∙ ap (λ (k : ℕ). writeItems l (forgetItems is) ++ uleb128 k) ec in row-plain b (ap (λ (k : ℕ). eqb k 4) ev ∙ q) e g
-            (a ∙ sym (append-assoc (writeItems l (forgetItems is)) (uleb128 c) (concat es)) ∙ ap (λ (x : List ℕ). x ++ concat es) (sym z))
+        row-counted v b c ev q m ec e g a =
+            let z : tail ≡ written is ++ uleb128 c = tail-is v ev ∙ ap (λ (k : Bool). written is ++ if_then_else_ k (uleb128 (rowWord R i (countWord t))) []) m ∙ ap (λ (k : ℕ). written is ++ uleb128 k) ec in
+            row-plain b (ap (λ (k : ℕ). eqb k 4) ev ∙ q) e g
+            (a ∙ sym (append-assoc (written is) (uleb128 c) (concat es)) ∙ ap (λ (x : List ℕ). x ++ concat es) (sym z))
 
       -- a closure: its function first
       row-closure : (f : ℕ → ℕ → ℕ → Walked) (e : List ℕ) (es : List (List ℕ)) (i₁ j₁ i′ j′ b c : ℕ) → underForm t ≡ 4 → itemsSpans is ≡ [] → rowWord R i (countWord t) ≡ c → rowsUnder H i ≡ b
           → f 1 (i + 1) (j + spanItems (forgetItems is)) ≡ walked e i₁ j₁ → f b i₁ j₁ ≡ walked (concat es) i′ j′
-          → walkRow H f i j ≡ walked (tagByte t ++ (e ++ (writeItems l (forgetItems is) ++ (uleb128 c ++ concat es)))) i′ j′
+          → walkRow H f i j ≡ walked (tagByte t ++ (e ++ (written is ++ (uleb128 c ++ concat es)))) i′ j′
       unfolding walkRow andWalk if_then_else_
       row-closure f e es i₁ j₁ i′ j′ b c ev bare ec eb g h =
           let head : headBytes H i (rowSpans H i j) ≡ tagByte t ++ [] = before-is ∙ ap (λ (v : ℕ). tagByte t ++ if_then_else_ (eqb v 4) [] tail) ev in
           let c′ : eqb (underForm (rowWord R i 0)) 4 ≡ true = ap (λ (k : ℕ). eqb (underForm k) 4) tag-is ∙ ap (λ (v : ℕ). eqb v 4) ev in
-          let own : itemsBytes H i [] ≡ writeItems l (forgetItems is) ++ uleb128 c = ap (itemsBytes H i) (sym bare) ∙ items-are ∙ ap₂ (λ (v k : ℕ). writeItems l (forgetItems is) ++ if_then_else_ (leb 2 v) (uleb128 k) []) ev ec in
+          let own : itemsBytes H i [] ≡ written is ++ uleb128 c = ap (itemsBytes H i) (sym bare) ∙ items-are ∙ ap₂ (λ (v k : ℕ). written is ++ if_then_else_ (leb 2 v) (uleb128 k) []) ev ec in
           let k : f 1 (i + 1) (spanAfter H i j) ≡ walked e i₁ j₁ = ap (f 1 (i + 1)) span-to ∙ g in
-          rw c′ (ap₂ (λ (v : List ℕ) (w : Walked). walked (v ++ (w .bytes ++ (itemsBytes H i [] ++ f (rowsUnder H i) (w .row) (w .span) .bytes))) (f (rowsUnder H i) (w .row) (w .span) .row) (f (rowsUnder H i) (w .row) (w .span) .span)) head k
+          rw c′ (ap₂ (λ (v : List ℕ) (w : Walked). let y = f (rowsUnder H i) (w .row) (w .span) in walked (v ++ (w .bytes ++ (itemsBytes H i [] ++ y .bytes))) (y .row) (y .span)) head k
           ∙ ap₂ (λ (v : List ℕ) (m : ℕ). walked ((tagByte t ++ []) ++ (e ++ (v ++ f m i₁ j₁ .bytes))) (f m i₁ j₁ .row) (f m i₁ j₁ .span)) own eb
-          ∙ ap (λ (w : Walked). walked ((tagByte t ++ []) ++ (e ++ ((writeItems l (forgetItems is) ++ uleb128 c) ++ w .bytes))) (w .row) (w .span)) h
-          ∙ ap (λ (v : List ℕ). walked v i′ j′) (ap₂ (λ (x y : List ℕ). x ++ (e ++ y)) (append-nil (tagByte t)) (append-assoc (writeItems l (forgetItems is)) (uleb128 c) (concat es))))
+          ∙ ap (λ (w : Walked). walked ((tagByte t ++ []) ++ (e ++ ((written is ++ uleb128 c) ++ w .bytes))) (w .row) (w .span)) h
+          ∙ ap (λ (v : List ℕ). walked v i′ j′) (ap₂ (λ (x y : List ℕ). x ++ (e ++ y)) (append-nil (tagByte t)) (append-assoc (written is) (uleb128 c) (concat es))))
 
   abbrev pub first-bytes : ℕ → List (Item Part) → Trees Part → List ℕ
-  first-bytes t is ks = tagByte t ++ writeRow (writeItems l (forgetItems is)) (shape t) (writeTrees l (forgetTrees ks))
+  first-bytes t is ks = tagByte t ++ writeRow (written is) (shape t) (writeTrees l (forgetTrees ks))
 
   -- the walk over these trees, and, of its first row and the rest, each by itself
   unfoldable pub Parts : ℕ → Trees Part → ℕ → ℕ → Type 0
   Parts d nil i j = Unit {0}
   Parts d (node t is ks ts) i j =
       (walk H d 1 i j ≡ walked (first-bytes t is ks) (i + 1 + size ks) (j + spanItems (forgetItems is) + spanCount (forgetTrees ks)))
-      × (walk H d (rootCount ts) (i + 1 + size ks) (j + spanItems (forgetItems is) + spanCount (forgetTrees ks)) ≡ walked (concat (writeTrees l (forgetTrees ts))) (i + 1 + size ks + size ts) (j + spanItems (forgetItems is) + spanCount (forgetTrees ks) + spanCount (forgetTrees ts)))
+      × (walk H d (rootCount ts) (i + 1 + size ks) (j + spanItems (forgetItems is) + spanCount (forgetTrees ks))
+      ≡ walked (concat (writeTrees l (forgetTrees ts))) (i + 1 + size ks + size ts) (j + spanItems (forgetItems is) + spanCount (forgetTrees ks) + spanCount (forgetTrees ts)))
 
   pub record WalkIs (d : ℕ) (ts : Trees Part) (i j : ℕ) : Type 0 where
     pub whole : walk H d (rootCount ts) i j ≡ walked (concat (writeTrees l (forgetTrees ts))) (i + size ts) (j + spanCount (forgetTrees ts))
     pub parts : Parts d ts i j
 
   module _ (d t : ℕ) (is : List (Item Part)) (i j : ℕ) (rest : List ℕ) (ins : InItems s is) (all : allOf itemSound (forgetItems is) ≡ true)
-      (more : List Span) (rest′ : List ℕ) (there : drop (2 * j) S ≡ spanWords (itemsSpans is ++ more) ++ rest′) (room : j ≤ length S / 2) (kn : List ItemKind) (e : shape t ≡ withTemplate kn) (q : sameKinds (kindsOf (shape t)) (forgetItems is) ≡ true) where
+      (more : List Span) (rest′ : List ℕ) (there : drop (2 * j) S ≡ spanWords (itemsSpans is ++ more) ++ rest′)
+      (room : j ≤ length S / 2) (kn : List ItemKind) (e : shape t ≡ withTemplate kn) (q : sameKinds (kindsOf (shape t)) (forgetItems is) ≡ true) where
     no-codes : noCode kn ≡ true
     unfolding fine
     no-codes = and-right (leb (length kn) 2) _ (ap fine (sym e) ∙ fine-shape t)
@@ -250,8 +271,8 @@ module _ (s : List ℕ) (l : List (List ℕ)) (R S : List ℕ) where
     unfolding kindsOf
     no-spans-here = no-spans kn is no-codes (ap (λ (x : Shape). sameKinds (kindsOf x) (forgetItems is)) (sym e) ∙ q) .0
 
-    closure-row : (ks : Trees Part) (here : drop (rowWidth * i) R ≡ rowWords t is (rootCount ks) ++ rest) → size ks ≤ u → rowRule (withTemplate kn) (forgetItems is) (roots (forgetTrees ks)) ≡ true → WalkIs d ks (i + 1) (j + spanItems (forgetItems is))
-        → walkRow H (walk H d) i j ≡ walked (first-bytes t is ks) (i + 1 + size ks) (j + spanItems (forgetItems is) + spanCount (forgetTrees ks))
+    closure-row : (ks : Trees Part) (here : drop (rowWidth * i) R ≡ rowWords t is (rootCount ks) ++ rest) → size ks ≤ u → rowRule (withTemplate kn) (forgetItems is) (roots (forgetTrees ks)) ≡ true
+        → WalkIs d ks (i + 1) (j + spanItems (forgetItems is)) → walkRow H (walk H d) i j ≡ walked (first-bytes t is ks) (i + 1 + size ks) (j + spanItems (forgetItems is) + spanCount (forgetTrees ks))
     unfolding rowRule roots forgetTrees Parts rootCount size spanCount writeTrees countWords writeRow shapeForm if_then_else_
     closure-row nil here small r w = false≢true r
     closure-row (node ft fi fk ks) here small r w =
@@ -260,13 +281,17 @@ module _ (s : List ℕ) (l : List (List ℕ)) (R S : List ℕ) where
         let cnt : rowWord R i (countWord t) ≡ rootCount ks = count-is t is (suc (rootCount ks)) i rest here q ins all (rootCount ks) [] (ap (λ (x : Shape). countWords x (suc (rootCount ks))) e) in
         let low : min (rootCount ks) u ≡ rootCount ks = let g = count-size ks in omega arith in
         let b : rowsUnder H i ≡ rootCount ks = beneath-is t is (suc (rootCount ks)) i rest here q ins all j more rest′ there room (walk H d) [] 0 0 4 v ∙ ap (λ (k : ℕ). min k u) cnt ∙ low in
-        let er : i + 1 + 1 + size fk + size ks ≡ i + 1 + (suc (size fk) + size ks) = omega arith in
-        let es : j + m + spanItems (forgetItems fi) + spanCount (forgetTrees fk) + spanCount (forgetTrees ks) ≡ j + m + ((spanItems (forgetItems fi) + spanCount (forgetTrees fk)) + spanCount (forgetTrees ks)) = omega arith in
-        row-closure t is (suc (rootCount ks)) i rest here q ins all j more rest′ there room (walk H d) (first-bytes ft fi fk) (writeTrees l (forgetTrees ks)) (i + 1 + 1 + size fk) (j + m + spanItems (forgetItems fi) + spanCount (forgetTrees fk))
-        (i + 1 + 1 + size fk + size ks) (j + m + spanItems (forgetItems fi) + spanCount (forgetTrees fk) + spanCount (forgetTrees ks)) (rootCount ks) (rootCount ks) v no-spans-here cnt b (w .parts .0) (w .parts .1)
-        ∙ ap₂ (λ (x y : ℕ). walked (tagByte t ++ (first-bytes ft fi fk ++ (writeItems l (forgetItems is) ++ (uleb128 (rootCount ks) ++ concat (writeTrees l (forgetTrees ks)))))) x y) er es
-        ∙ ap (λ (n : ℕ). walked (tagByte t ++ (first-bytes ft fi fk ++ (writeItems l (forgetItems is) ++ (uleb128 n ++ concat (writeTrees l (forgetTrees ks)))))) (i + 1 + (suc (size fk) + size ks)) (j + m + ((spanItems (forgetItems fi) + spanCount (forgetTrees fk)) + spanCount (forgetTrees ks)))) (sym (length-written l ks))
-        ∙ ap (λ (x : Shape). walked (tagByte t ++ writeRow (writeItems l (forgetItems is)) x (first-bytes ft fi fk ∷ writeTrees l (forgetTrees ks))) (i + 1 + (suc (size fk) + size ks)) (j + m + ((spanItems (forgetItems fi) + spanCount (forgetTrees fk)) + spanCount (forgetTrees ks)))) (sym e)
+        let fj = j + m + spanItems (forgetItems fi) + spanCount (forgetTrees fk) in
+        let i₁ = i + 1 + (suc (size fk) + size ks) in
+        let j₁ = j + m + ((spanItems (forgetItems fi) + spanCount (forgetTrees fk)) + spanCount (forgetTrees ks)) in
+        let er : i + 1 + 1 + size fk + size ks ≡ i₁ = omega arith in
+        let es : fj + spanCount (forgetTrees ks) ≡ j₁ = omega arith in
+        let others = writeTrees l (forgetTrees ks) in
+        row-closure t is (suc (rootCount ks)) i rest here q ins all j more rest′ there room (walk H d) (first-bytes ft fi fk) others (i + 1 + 1 + size fk) fj
+        (i + 1 + 1 + size fk + size ks) (fj + spanCount (forgetTrees ks)) (rootCount ks) (rootCount ks) v no-spans-here cnt b (w .parts .0) (w .parts .1)
+        ∙ ap₂ (λ (x y : ℕ). walked (tagByte t ++ (first-bytes ft fi fk ++ (written is ++ (uleb128 (rootCount ks) ++ concat others)))) x y) er es
+        ∙ ap (λ (n : ℕ). walked (tagByte t ++ (first-bytes ft fi fk ++ (written is ++ (uleb128 n ++ concat others)))) i₁ j₁) (sym (length-written l ks))
+        ∙ ap (λ (x : Shape). walked (tagByte t ++ writeRow (written is) x (first-bytes ft fi fk ∷ others)) i₁ j₁) (sym e)
 
   module _ (d t : ℕ) (is : List (Item Part)) (ks : Trees Part) (i j : ℕ) (rest : List ℕ) (here : drop (rowWidth * i) R ≡ rowWords t is (rootCount ks) ++ rest) (ins : InItems s is) (all : allOf itemSound (forgetItems is) ≡ true)
       (more : List Span) (rest′ : List ℕ) (there : drop (2 * j) S ≡ spanWords (itemsSpans is ++ more) ++ rest′) (room : j ≤ length S / 2) (small : size ks ≤ u) where
@@ -291,38 +316,55 @@ module _ (s : List ℕ) (l : List (List ℕ)) (R S : List ℕ) where
     half : distinctPairs [] (roots (forgetTrees ks)) ≡ true → 2 * min (rootCount ks / 2) u ≡ rootCount ks
     half h = let g = even [] (roots (forgetTrees ks)) h in let c = count-roots ks in let z = count-size ks in omega arith
 
-    closed : (kn : List ItemKind) → shape t ≡ withTemplate kn → sameKinds (kindsOf (shape t)) (forgetItems is) ≡ true → rowRule (withTemplate kn) (forgetItems is) (roots (forgetTrees ks)) ≡ true → WalkIs d ks (i + 1) (j + spanItems (forgetItems is))
-        → walkRow H (walk H d) i j ≡ walked (first-bytes t is ks) i₁ j₁
+    closed : (kn : List ItemKind) → shape t ≡ withTemplate kn → sameKinds (kindsOf (shape t)) (forgetItems is) ≡ true → rowRule (withTemplate kn) (forgetItems is) (roots (forgetTrees ks)) ≡ true
+        → WalkIs d ks (i + 1) (j + spanItems (forgetItems is)) → walkRow H (walk H d) i j ≡ walked (first-bytes t is ks) i₁ j₁
     closed kn e q r w = closure-row d t is i j rest ins all more rest′ there room kn e q ks here small r w
+
+    -- a row without a count, and one with the count c, by the form v of what is under it
+    bare-row : (v : ℕ) → underForm t ≡ v → eqb v 4 ≡ false → leb 2 v ≡ false → sameKinds (kindsOf (shape t)) (forgetItems is) ≡ true
+        → beneath t i v ≡ rootCount ks → WalkIs d ks (i + 1) (j + spanItems (forgetItems is)) → writeRow (written is) (shape t) es ≡ written is ++ concat es
+        → walkRow H (walk H d) i j ≡ walked (first-bytes t is ks) i₁ j₁
+    bare-row v e n m q b w =
+        row-bare t is (rootCount ks) i rest here q ins all j more rest′ there room (walk H d) es i₁ j₁ v (rootCount ks) e n m
+        (beneath-is t is (rootCount ks) i rest here q ins all j more rest′ there room (walk H d) es i₁ j₁ v e ∙ b) (w .whole)
+
+    counted-row : (v c : ℕ) → underForm t ≡ v → eqb v 4 ≡ false → leb 2 v ≡ true → sameKinds (kindsOf (shape t)) (forgetItems is) ≡ true → rowWord R i (countWord t) ≡ c
+        → beneath t i v ≡ rootCount ks → WalkIs d ks (i + 1) (j + spanItems (forgetItems is)) → writeRow (written is) (shape t) es ≡ written is ++ (uleb128 c ++ concat es)
+        → walkRow H (walk H d) i j ≡ walked (first-bytes t is ks) i₁ j₁
+    counted-row v c e n m q cnt b w =
+        row-counted t is (rootCount ks) i rest here q ins all j more rest′ there room (walk H d) es i₁ j₁ v (rootCount ks) c e n m cnt
+        (beneath-is t is (rootCount ks) i rest here q ins all j more rest′ there room (walk H d) es i₁ j₁ v e ∙ b) (w .whole)
+
+    -- a row that counts the rows under it
+    listed-row : (sh : Shape) → shape t ≡ sh → shapeForm sh ≡ 2 → countWords sh (rootCount ks) ≡ rootCount ks ∷ [] → writeRow (written is) sh es ≡ written is ++ (uleb128 (length es) ++ concat es)
+        → sameKinds (kindsOf (shape t)) (forgetItems is) ≡ true → WalkIs d ks (i + 1) (j + spanItems (forgetItems is)) → walkRow H (walk H d) i j ≡ walked (first-bytes t is ks) i₁ j₁
+    unfolding if_then_else_
+    listed-row sh e f c o q w =
+        let v : underForm t ≡ 2 = unfold underForm in (ap shapeForm e ∙ f) in
+        let cnt = count-is t is (rootCount ks) i rest here q ins all (rootCount ks) [] (ap (λ (x : Shape). countWords x (rootCount ks)) e ∙ c) in
+        counted-row 2 (rootCount ks) v refl refl q cnt (ap (λ (k : ℕ). min k u) cnt ∙ least) w
+        (ap (λ (x : Shape). writeRow (written is) x es) e ∙ o ∙ ap (λ (n : ℕ). written is ++ (uleb128 n ++ concat es)) (length-written l ks))
 
     one-row : (sh : Shape) → shape t ≡ sh → sameKinds (kindsOf (shape t)) (forgetItems is) ≡ true → rowRule sh (forgetItems is) (roots (forgetTrees ks)) ≡ true → WalkIs d ks (i + 1) (j + spanItems (forgetItems is))
         → walkRow H (walk H d) i j ≡ walked (first-bytes t is ks) i₁ j₁
     unfolding rowRule kidsRule shapeForm kidsForm writeKids countWords kidsCountWords writeRow if_then_else_
     one-row (withKids kn noValue) e q r w =
         let v : underForm t ≡ 0 = unfold underForm in (ap shapeForm e) in
-        row-bare t is (rootCount ks) i rest here q ins all j more rest′ there room (walk H d) es i₁ j₁ 0 (rootCount ks) v refl refl (beneath-is t is (rootCount ks) i rest here q ins all j more rest′ there room (walk H d) es i₁ j₁ 0 v ∙ sym (none-under (and-right _ _ r))) (w .whole) (ap (λ (x : Shape). writeRow (writeItems l (forgetItems is)) x es) e)
+        bare-row 0 v refl refl q (sym (none-under (and-right _ _ r))) w (ap (λ (x : Shape). writeRow (written is) x es) e)
     one-row (withKids kn oneValue) e q r w =
         let v : underForm t ≡ 1 = unfold underForm in (ap shapeForm e) in
-        row-bare t is (rootCount ks) i rest here q ins all j more rest′ there room (walk H d) es i₁ j₁ 1 (rootCount ks) v refl refl (beneath-is t is (rootCount ks) i rest here q ins all j more rest′ there room (walk H d) es i₁ j₁ 1 v ∙ sym (one-under (and-left _ _ (and-right _ _ r)))) (w .whole) (ap (λ (x : Shape). writeRow (writeItems l (forgetItems is)) x es) e)
-    one-row (withKids kn values) e q r w =
-        let v : underForm t ≡ 2 = unfold underForm in (ap shapeForm e) in
-        let cnt : rowWord R i (countWord t) ≡ rootCount ks = count-is t is (rootCount ks) i rest here q ins all (rootCount ks) [] (ap (λ (x : Shape). countWords x (rootCount ks)) e) in
-        row-counted t is (rootCount ks) i rest here q ins all j more rest′ there room (walk H d) es i₁ j₁ 2 (rootCount ks) (rootCount ks) v refl refl cnt (beneath-is t is (rootCount ks) i rest here q ins all j more rest′ there room (walk H d) es i₁ j₁ 2 v ∙ ap (λ (k : ℕ). min k u) cnt ∙ least) (w .whole) (ap (λ (x : Shape). writeRow (writeItems l (forgetItems is)) x es) e ∙ ap (λ (n : ℕ). writeItems l (forgetItems is) ++ (uleb128 n ++ concat es)) (length-written l ks))
-    one-row (withKids kn keys) e q r w =
-        let v : underForm t ≡ 2 = unfold underForm in (ap shapeForm e) in
-        let cnt : rowWord R i (countWord t) ≡ rootCount ks = count-is t is (rootCount ks) i rest here q ins all (rootCount ks) [] (ap (λ (x : Shape). countWords x (rootCount ks)) e) in
-        row-counted t is (rootCount ks) i rest here q ins all j more rest′ there room (walk H d) es i₁ j₁ 2 (rootCount ks) (rootCount ks) v refl refl cnt (beneath-is t is (rootCount ks) i rest here q ins all j more rest′ there room (walk H d) es i₁ j₁ 2 v ∙ ap (λ (k : ℕ). min k u) cnt ∙ least) (w .whole) (ap (λ (x : Shape). writeRow (writeItems l (forgetItems is)) x es) e ∙ ap (λ (n : ℕ). writeItems l (forgetItems is) ++ (uleb128 n ++ concat es)) (length-written l ks))
+        bare-row 1 v refl refl q (sym (one-under (and-left _ _ (and-right _ _ r)))) w (ap (λ (x : Shape). writeRow (written is) x es) e)
+    one-row (withKids kn values) e q r w = listed-row (withKids kn values) e refl refl refl q w
+    one-row (withKids kn keys) e q r w = listed-row (withKids kn keys) e refl refl refl q w
     one-row (withKids kn pairs) e q r w =
         let v : underForm t ≡ 3 = unfold underForm in (ap shapeForm e) in
-        let cnt : rowWord R i (countWord t) ≡ rootCount ks / 2 = count-is t is (rootCount ks) i rest here q ins all (rootCount ks / 2) [] (ap (λ (x : Shape). countWords x (rootCount ks)) e) in
-        row-counted t is (rootCount ks) i rest here q ins all j more rest′ there room (walk H d) es i₁ j₁ 3 (rootCount ks) (rootCount ks / 2) v refl refl cnt (beneath-is t is (rootCount ks) i rest here q ins all j more rest′ there room (walk H d) es i₁ j₁ 3 v ∙ ap (λ (k : ℕ). 2 * min k u) cnt ∙ half (and-right _ _ (and-right _ _ r))) (w .whole) (ap (λ (x : Shape). writeRow (writeItems l (forgetItems is)) x es) e ∙ ap (λ (n : ℕ). writeItems l (forgetItems is) ++ (uleb128 (n / 2) ++ concat es)) (length-written l ks))
+        let cnt = count-is t is (rootCount ks) i rest here q ins all (rootCount ks / 2) [] (ap (λ (x : Shape). countWords x (rootCount ks)) e) in
+        counted-row 3 (rootCount ks / 2) v refl refl q cnt (ap (λ (k : ℕ). 2 * min k u) cnt ∙ half (and-right _ _ (and-right _ _ r))) w
+        (ap (λ (x : Shape). writeRow (written is) x es) e ∙ ap (λ (n : ℕ). written is ++ (uleb128 (n / 2) ++ concat es)) (length-written l ks))
     one-row (withChunk kn) e q r w =
         let v : underForm t ≡ 1 = unfold underForm in (ap shapeForm e) in
-        row-bare t is (rootCount ks) i rest here q ins all j more rest′ there room (walk H d) es i₁ j₁ 1 (rootCount ks) v refl refl (beneath-is t is (rootCount ks) i rest here q ins all j more rest′ there room (walk H d) es i₁ j₁ 1 v ∙ sym (one-under (and-left _ _ (and-right _ _ r)))) (w .whole) (ap (λ (x : Shape). writeRow (writeItems l (forgetItems is)) x es) e)
-    one-row (withFields kn) e q r w =
-        let v : underForm t ≡ 2 = unfold underForm in (ap shapeForm e) in
-        let cnt : rowWord R i (countWord t) ≡ rootCount ks = count-is t is (rootCount ks) i rest here q ins all (rootCount ks) [] (ap (λ (x : Shape). countWords x (rootCount ks)) e) in
-        row-counted t is (rootCount ks) i rest here q ins all j more rest′ there room (walk H d) es i₁ j₁ 2 (rootCount ks) (rootCount ks) v refl refl cnt (beneath-is t is (rootCount ks) i rest here q ins all j more rest′ there room (walk H d) es i₁ j₁ 2 v ∙ ap (λ (k : ℕ). min k u) cnt ∙ least) (w .whole) (ap (λ (x : Shape). writeRow (writeItems l (forgetItems is)) x es) e ∙ ap (λ (n : ℕ). writeItems l (forgetItems is) ++ (uleb128 n ++ concat es)) (length-written l ks))
+        bare-row 1 v refl refl q (sym (one-under (and-left _ _ (and-right _ _ r)))) w (ap (λ (x : Shape). writeRow (written is) x es) e)
+    one-row (withFields kn) e q r w = listed-row (withFields kn) e refl refl refl q w
     one-row (withTemplate kn) e q r w = closed kn e q r w
 
   length-rows : (ts : Trees Part) → ruled ts ≡ true → length (rowTable ts) ≡ rowWidth * size ts
@@ -371,21 +413,26 @@ module _ (s : List ℕ) (l : List (List ℕ)) (R S : List ℕ) where
       let at : allItems itemSound (forgetTrees ts) ≡ true = and-right _ _ (and-right _ _ a) in
       let ai : allOf itemSound (forgetItems is) ≡ true = and-left _ _ a in
       let m = spanItems (forgetItems is) in
-      let here : drop (rowWidth * i) R ≡ rowWords t is (rootCount ks) ++ (rowTable ks ++ (rowTable ts ++ rest)) = eR ∙ append-assoc (rowWords t is (rootCount ks) ++ rowTable ks) (rowTable ts) rest ∙ append-assoc (rowWords t is (rootCount ks)) (rowTable ks) (rowTable ts ++ rest) in
+      let here : drop (rowWidth * i) R ≡ rowWords t is (rootCount ks) ++ (rowTable ks ++ (rowTable ts ++ rest)) =
+      eR ∙ append-assoc (rowWords t is (rootCount ks) ++ rowTable ks) (rowTable ts) rest ∙ append-assoc (rowWords t is (rootCount ks)) (rowTable ks) (rowTable ts ++ rest) in
       let e₁ : rowWidth * (i + 1) ≡ rowWidth * i + rowWidth = omega arith in
-      let rows₁ : drop (rowWidth * (i + 1)) R ≡ rowTable ks ++ (rowTable ts ++ rest) = ap (λ (k : ℕ). drop k R) e₁ ∙ sym (drop-drop rowWidth (rowWidth * i) R) ∙ ap (drop rowWidth) here ∙ drop-at (rowWords t is (rootCount ks)) (rowTable ks ++ (rowTable ts ++ rest)) 5 (row-width t is (rootCount ks) kinds) in
+      let rows₁ : drop (rowWidth * (i + 1)) R ≡ rowTable ks ++ (rowTable ts ++ rest) = ap (λ (k : ℕ). drop k R) e₁
+      ∙ sym (drop-drop rowWidth (rowWidth * i) R) ∙ ap (drop rowWidth) here ∙ drop-at (rowWords t is (rootCount ks)) (rowTable ks ++ (rowTable ts ++ rest)) 5 (row-width t is (rootCount ks) kinds) in
       let lk = length-rows ks hk in
       let e₂ : rowWidth * (i + 1 + size ks) ≡ rowWidth * (i + 1) + rowWidth * size ks = omega arith in
-      let rows₂ : drop (rowWidth * (i + 1 + size ks)) R ≡ rowTable ts ++ rest = ap (λ (k : ℕ). drop k R) e₂ ∙ sym (drop-drop (rowWidth * size ks) (rowWidth * (i + 1)) R) ∙ ap (drop (rowWidth * size ks)) rows₁ ∙ drop-at (rowTable ks) (rowTable ts ++ rest) (rowWidth * size ks) lk in
+      let rows₂ : drop (rowWidth * (i + 1 + size ks)) R ≡ rowTable ts ++ rest = ap (λ (k : ℕ). drop k R) e₂
+      ∙ sym (drop-drop (rowWidth * size ks) (rowWidth * (i + 1)) R) ∙ ap (drop (rowWidth * size ks)) rows₁ ∙ drop-at (rowTable ks) (rowTable ts ++ rest) (rowWidth * size ks) lk in
       let more = spanTable ks ++ spanTable ts in
       let sp = spans-next t is (rootCount ks) i (rowTable ks ++ (rowTable ts ++ rest)) here kinds (ins .0) ai j more rest′ eS room in
       let sr = span-room t is (rootCount ks) i (rowTable ks ++ (rowTable ts ++ rest)) here kinds (ins .0) ai j more rest′ eS room in
-      let spans₁ : drop (2 * (j + m)) S ≡ spanWords (spanTable ks) ++ (spanWords (spanTable ts) ++ rest′) = sp ∙ ap (λ (v : List ℕ). v ++ rest′) (spanWords-append (spanTable ks) (spanTable ts)) ∙ append-assoc (spanWords (spanTable ks)) (spanWords (spanTable ts)) rest′ in
+      let spans₁ : drop (2 * (j + m)) S ≡ spanWords (spanTable ks) ++ (spanWords (spanTable ts) ++ rest′) =
+      sp ∙ ap (λ (v : List ℕ). v ++ rest′) (spanWords-append (spanTable ks) (spanTable ts)) ∙ append-assoc (spanWords (spanTable ks)) (spanWords (spanTable ts)) rest′ in
       let ls = length-spans ks hk (ins .1) ak in
       let lw = length-span-words (spanTable ks) in
       let e₃ : 2 * (j + m + spanCount (forgetTrees ks)) ≡ 2 * (j + m) + 2 * spanCount (forgetTrees ks) = omega arith in
       let lw′ : length (spanWords (spanTable ks)) ≡ 2 * spanCount (forgetTrees ks) = omega arith in
-      let spans₂ : drop (2 * (j + m + spanCount (forgetTrees ks))) S ≡ spanWords (spanTable ts) ++ rest′ = ap (λ (k : ℕ). drop k S) e₃ ∙ sym (drop-drop (2 * spanCount (forgetTrees ks)) (2 * (j + m)) S) ∙ ap (drop (2 * spanCount (forgetTrees ks))) spans₁ ∙ drop-at (spanWords (spanTable ks)) (spanWords (spanTable ts) ++ rest′) (2 * spanCount (forgetTrees ks)) lw′ in
+      let spans₂ : drop (2 * (j + m + spanCount (forgetTrees ks))) S ≡ spanWords (spanTable ts) ++ rest′ = ap (λ (k : ℕ). drop k S) e₃ ∙ sym (drop-drop (2 * spanCount (forgetTrees ks)) (2 * (j + m)) S)
+      ∙ ap (drop (2 * spanCount (forgetTrees ks))) spans₁ ∙ drop-at (spanWords (spanTable ks)) (spanWords (spanTable ts) ++ rest′) (2 * spanCount (forgetTrees ks)) lw′ in
       let room₂ : j + m + spanCount (forgetTrees ks) ≤ length S / 2 = omega (arith, sr, length-drop (2 * (j + m)) S, ap length spans₁, length-append (spanWords (spanTable ks)) (spanWords (spanTable ts) ++ rest′)) in
       let under₁ = walks d ks (i + 1) (j + m) (rowTable ts ++ rest) (spanWords (spanTable ts) ++ rest′) rows₁ spans₁ sr (omega arith) (omega arith) hk (ins .1) ak in
       let row = one-row d t is ks i j (rowTable ks ++ (rowTable ts ++ rest)) here (ins .0) ai more rest′ eS room (omega arith) (shape t) refl kinds (and-left _ _ h) under₁ in

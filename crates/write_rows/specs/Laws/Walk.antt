@@ -200,7 +200,8 @@ module _ (s pl rs t : List ℕ) {comparing : Bool} {p : List ℕ} where
       → Reached comparing p o‴ o⁗ (length t / 2) m″ r (f n (m″ .row) (m″ .span)) → Reached comparing p o o⁗ (length t / 2) st r (walkRow (held s pl rs t) f (st .row) (st .span))
   unfolding walkRow if_then_else_
   closure-reached f {o} {o′} {o″} {o‴} {o⁗} {st} {m} {m′} {m″} {r} {n} {v} h e y en a b er es c d =
-      let mid : Reached comparing p o″ o‴ (length t / 2) m′ m″ (walked (itemsBytes (held s pl rs t) (st .row) []) (m′ .row) (m′ .span)) = record { wrote = emitted-as (items-held s pl rs t (st .row)) c; row = er; span = es; within = omega (arith, b .within, es) } in
+      let mid : Reached comparing p o″ o‴ (length t / 2) m′ m″ (walked (itemsBytes (held s pl rs t) (st .row) []) (m′ .row) (m′ .span)) =
+      record { wrote = emitted-as (items-held s pl rs t (st .row)) c; row = er; span = es; within = omega (arith, b .within, es) } in
       let h′ : length o′ ≤ outputLimit comparing = omega (arith, reached-long a) in
       let h″ : length o″ ≤ outputLimit comparing = omega (arith, reached-long a, reached-long b) in
       rw (← e, eq-eqb v 4 y, ← (en ∙ under-held s pl rs t (st .row)))

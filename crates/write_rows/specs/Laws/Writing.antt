@@ -58,7 +58,8 @@ unfolding obeyRules forgetTrees ruled if_then_else_
 obeyed-ruled d nil h = refl
 obeyed-ruled d (node t is ks ts) h = and-both (and-left _ _ h) (and-both (go (leb t 26) (and-left _ _ (and-right _ _ h)) (λ e. obeyed-ruled d ks e) (λ e. obeyed-ruled (pred d) ks e)) (obeyed-ruled d ts (and-right _ _ (and-right _ _ h))))
   where
-    go : (b : Bool) → if_then_else_ b (ltb 0 d and obeyRules (pred d) (forgetTrees ks)) (obeyRules d (forgetTrees ks)) ≡ true → (obeyRules d (forgetTrees ks) ≡ true → ruled ks ≡ true) → (obeyRules (pred d) (forgetTrees ks) ≡ true → ruled ks ≡ true) → ruled ks ≡ true
+    go : (b : Bool) → if_then_else_ b (ltb 0 d and obeyRules (pred d) (forgetTrees ks)) (obeyRules d (forgetTrees ks)) ≡ true
+        → (obeyRules d (forgetTrees ks) ≡ true → ruled ks ≡ true) → (obeyRules (pred d) (forgetTrees ks) ≡ true → ruled ks ≡ true) → ruled ks ≡ true
     go true p f g = g (and-right _ _ p)
     go false p f g = f p
 

@@ -1,7 +1,8 @@
 -- The readers of values and chunks meet their contracts: the measure is eight times the depth left, plus the height of a reader in the calls at one depth.
 use Rattle.read_values.proofs.values.+read_chunk+read_closure+read_entries+read_field+read_fields+read_gap+read_under+read_value+read_values.{statement}
 use Rattle.read_values.proofs.values.+read_chunk+read_closure+read_entries+read_field+read_fields+read_gap+read_under+read_value+read_values.Tie.{close}
-use Rattle.read_values.proofs.values.+read_chunk+read_closure+read_entries+read_field+read_fields+read_gap+read_under+read_value+read_values.Proof.Common.{μ-read-chunk, μ-read-closure, μ-read-entries, μ-read-field, μ-read-fields, μ-read-gap, μ-read-under, μ-read-value, μ-read-values}
+use Rattle.read_values.proofs.values.+read_chunk+read_closure+read_entries+read_field+read_fields+read_gap+read_under+read_value+read_values.Proof.Common.{μ-read-chunk, μ-read-closure, μ-read-entries, μ-read-field, μ-read-fields}
+use Rattle.read_values.proofs.values.+read_chunk+read_closure+read_entries+read_field+read_fields+read_gap+read_under+read_value+read_values.Proof.Common.{μ-read-gap, μ-read-under, μ-read-value, μ-read-values}
 use Rattle.read_values.proofs.values.+read_chunk+read_closure+read_entries+read_field+read_fields+read_gap+read_under+read_value+read_values.Proof.Chunk.{read-chunk-meets}
 use Rattle.read_values.proofs.values.+read_chunk+read_closure+read_entries+read_field+read_fields+read_gap+read_under+read_value+read_values.Proof.Closure.{read-closure-meets}
 use Rattle.read_values.proofs.values.+read_chunk+read_closure+read_entries+read_field+read_fields+read_gap+read_under+read_value+read_values.Proof.Entries.{read-entries-meets}
