@@ -5,6 +5,7 @@ use mathlib.Core.Path.{_≡_}
 use Prim.Native.Nat.{ℕ, _+_, _≤_}
 use lib.Dec.{leb, eqb}
 use lib.ListN.{length, drop}
+use Rattle.payload.specs.Tables.{sizeLimit}
 use Rattle.slices.specs.Put.{put}
 
 -- an output, and the place of the next byte
@@ -17,11 +18,11 @@ output o a = record { out = o; at = a }
 
 -- the size limit of a payload
 abbrev pub limit : ℕ
-limit = 16777216
+limit = sizeLimit
 
 -- the place after bytes that passed the limit, or differed from the payload; it stays there
 abbrev pub stopped : ℕ
-stopped = 16777217
+stopped = limit + 1
 
 -- so many bytes further on
 unfoldable pub further : ℕ → ℕ → ℕ

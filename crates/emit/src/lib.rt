@@ -10,10 +10,11 @@ ghost use Rattle.slices.specs.Put.{put};
 ghost use Rattle.slices.specs.LittleEndian.{toLeBytes};
 ghost use Rattle.varint.specs.Uleb128.{uleb128};
 ghost use Rattle.emit.specs.Emit.{further, placeAfter, Ready, Emitted};
+use payload::Program;
 
-const LIMIT: usize = 16777216;
+const LIMIT: usize = Program::SIZE;
 
-const STOPPED: usize = 16777217;
+const STOPPED: usize = LIMIT + 1;
 
 pub fn least(a: usize, b: usize) -> usize
     ensures { λ r. ⌜ r ≡ min a b ⌝ }
