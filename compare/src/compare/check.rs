@@ -1,9 +1,10 @@
 //! The house check.
 
-use super::domain::{natives, rust_check};
+use super::domain::{natives, rust_check, rust_write};
 use crate::document::{self, Loan, Reading};
 use crate::inputs::loans;
 use crate::inputs::payloads::{Style, damaged, every_short, payload};
+use crate::inputs::pools;
 use crate::inputs::programs::{self, Draw, NAME_LISTS};
 use crate::ours::{self, Called};
 use crate::random::Random;
@@ -14,6 +15,9 @@ use port::rlc2_house_check_tables;
 /// So many programs are drawn by each thread; each gives several payloads.
 const PROGRAMS: usize = 370_000;
 const COPIES: usize = 8;
+
+/// So many programs with a large pool of each size.
+const LARGE_POOLS: usize = 20;
 
 /// The tables of `rlc2_house_check`: 512 rows, 1,024 spans, 512 starts and 256 strings.
 const OWN_TABLES: Loan = Loan {
@@ -37,6 +41,12 @@ pub fn payloads(seed: u64, half: u64) -> Vec<Tally> {
     let mut last = Vec::new();
     for _ in 0..PROGRAMS {
         last = drawn.compare_copies(&last);
+    }
+    for size in pools::SIZES {
+        drawn.compare_large_pools(size);
+    }
+    if half == 0 {
+        drawn.compare_largest_pool();
     }
     [short, drawn]
         .into_iter()
@@ -89,6 +99,32 @@ impl Comparison {
             self.compare(&bytes);
         }
         tidy
+    }
+
+    /// The writing of a program, and with one string again, two changed for each other, or one departure.
+    fn compare_large_pools(&mut self, size: (usize, usize)) {
+        for _ in 0..LARGE_POOLS {
+            let program = pools::program(&mut self.random, size);
+            let repeated = Style {
+                repeated_strings: 1,
+                ..Style::default()
+            };
+            let swapped = Style {
+                swapped_strings: 1,
+                ..Style::default()
+            };
+            let one = Style::one(&mut self.random);
+            for style in [Style::default(), repeated, swapped, one] {
+                let payload = payload(&mut self.random, &program, style);
+                self.compare(&payload);
+            }
+        }
+    }
+
+    fn compare_largest_pool(&mut self) {
+        let program = pools::program(&mut self.random, pools::LARGEST);
+        let payload = rust_write(&program).expect("record names that are gathered");
+        self.compare(&payload);
     }
 
     fn compare(&mut self, payload: &[u8]) {

@@ -1,9 +1,10 @@
 //! Reading a payload.
 
-use super::domain::{COUNT_LIMIT, is_compared, natives, rust_read};
+use super::domain::{COUNT_LIMIT, is_compared, natives, rust_read, rust_write};
 use crate::document::{self, BYTE_LIMIT, Loan, ROW_LIMIT, Reading, START_LIMIT, STRING_LIMIT};
 use crate::inputs::loans;
 use crate::inputs::payloads::{Style, damaged, every_short, payload};
+use crate::inputs::pools;
 use crate::inputs::programs::{self, Draw, NAME_LISTS};
 use crate::ours::{self, Called};
 use crate::random::Random;
@@ -14,6 +15,9 @@ use original::native::Module;
 const PROGRAMS: usize = 450_000;
 const LOOSE_COPIES: usize = 3;
 const DAMAGED_COPIES: usize = 6;
+
+/// So many programs with a large pool of each size.
+const LARGE_POOLS: usize = 20;
 
 /// Every short payload, then random programs in and beside the writer's form and damaged copies of them.
 pub fn payloads(seed: u64, half: u64) -> Vec<Tally> {
@@ -30,7 +34,11 @@ pub fn payloads(seed: u64, half: u64) -> Vec<Tally> {
     for _ in 0..PROGRAMS {
         last = drawn.compare_copies(&last);
     }
+    for size in pools::SIZES {
+        drawn.compare_large_pools(size);
+    }
     if half == 0 {
+        drawn.compare_largest_pool();
         drawn.compare_limits();
     }
     [short, drawn]
@@ -128,6 +136,22 @@ impl Comparison {
         let expected = rust_read(payload, &self.natives[list]);
         self.against_rust.answer(called.number);
         self.against_rust.same(ours, expected, || hex(payload));
+    }
+
+    fn compare_large_pools(&mut self, size: (usize, usize)) {
+        for _ in 0..LARGE_POOLS {
+            let program = pools::program(&mut self.random, size);
+            for style in [Style::default(), Style::one(&mut self.random)] {
+                let payload = payload(&mut self.random, &program, style);
+                self.compare(&payload, COUNT_LIMIT);
+            }
+        }
+    }
+
+    fn compare_largest_pool(&mut self) {
+        let program = pools::program(&mut self.random, pools::LARGEST);
+        let payload = rust_write(&program).expect("record names that are gathered");
+        self.compare(&payload, COUNT_LIMIT);
     }
 
     /// Payloads of the greatest length, and with the most rows, strings and starts, and one more of each.

@@ -2,6 +2,8 @@
 
 use super::domain::rust_write;
 use crate::document::{self, BYTE_LIMIT, Counts, Program, ROW_LIMIT, START_LIMIT};
+use crate::inputs::loans;
+use crate::inputs::pools;
 use crate::inputs::programs::{self, Draw};
 use crate::inputs::tables::{self, Held};
 use crate::ours::{self, Written};
@@ -13,6 +15,9 @@ use original::tree;
 const PROGRAMS: usize = 1_800_000;
 const DAMAGED_COPIES: usize = 2;
 
+/// So many programs with a large pool of each size.
+const LARGE_POOLS: usize = 20;
+
 /// With strings of each length up to one of these the writing is just below the limit of a writing, or above it.
 const OVERLAPPING: [u64; 3] = [5_788, 5_789, 5_790];
 
@@ -22,7 +27,11 @@ pub fn programs(seed: u64, half: u64) -> Vec<Tally> {
     for _ in 0..PROGRAMS {
         comparison.compare_copies();
     }
+    for size in pools::SIZES {
+        comparison.compare_large_pools(size);
+    }
     if half == 0 {
+        comparison.compare_largest_pool();
         comparison.compare_limits();
     }
     vec![comparison.against_rust, comparison.against_document]
@@ -78,6 +87,34 @@ impl Comparison {
         self.against_rust.answer(number.unwrap_or(0));
         self.against_rust
             .same(ours, expected, || described(&held.program()));
+    }
+
+    /// Strings wherever they stand, often at several places.
+    fn compare_large_pools(&mut self, size: (usize, usize)) {
+        for _ in 0..LARGE_POOLS {
+            let program = pools::program(&mut self.random, size);
+            let held = tables::tables(&mut self.random, &program);
+            let written = self.compare(&held, true);
+            self.compare_with_rust(&program, &held, written);
+            self.compare(&held, false);
+        }
+    }
+
+    /// Strings in a payload that was read.
+    fn compare_largest_pool(&mut self) {
+        let program = pools::program(&mut self.random, pools::LARGEST);
+        let store = rust_write(&program).expect("record names that are gathered");
+        let loan = loans::ample(&mut self.random, store.len());
+        let reading = document::read(&store, &[], loan);
+        let held = Held {
+            counts: reading.answer.expect("a payload that reads").counts,
+            rows: reading.tables.rows,
+            spans: reading.tables.spans,
+            starts: reading.tables.starts,
+            store,
+        };
+        let written = self.compare(&held, true);
+        self.compare_with_rust(&program, &held, written);
     }
 
     /// A program with a pool table that is large enough and an output that is as long as the writing, or both about that.

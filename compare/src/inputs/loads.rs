@@ -9,9 +9,8 @@ use std::ops::Range;
 const SCENE: usize = 20;
 const ACT: usize = 10;
 
-/// The natives that scenes name, and others, as a names list and by name.
+/// The natives that scenes name, and others, as a names list.
 pub const NATIVES: &[u8] = b"show\nhide\nfade\nwait\nprint\nlen\n";
-pub const NATIVE_NAMES: [&str; 6] = ["show", "hide", "fade", "wait", "print", "len"];
 
 /// A script of so many titles of 20 to 80 bytes, about 100 bytes of payload to each title: acts of scenes, which are functions
 /// with code, and three line starts to four titles. Titles and names are drawn from so many distinct ones.
@@ -33,9 +32,43 @@ pub fn script(seed: u64, titles: usize, distinct: usize) -> Program {
 
 /// A program of so many distinct strings, 20 to 80 bytes each, and little else.
 pub fn strings(seed: u64, count: usize) -> Program {
-    let titles = (0..count).map(title).collect();
+    constants(seed, (0..count).map(title).collect())
+}
+
+/// The same of 8 to 10 bytes each, so that a payload holds a million.
+pub fn short_strings(seed: u64, count: usize) -> Program {
+    let short = |number| title_of(number, 8..11);
+    constants(seed, (0..count).map(short).collect())
+}
+
+/// So many uses of distinct strings in random order.
+pub fn strings_again(seed: u64, uses: usize, distinct: usize) -> Program {
+    let mut random = Random::new(seed + 1);
+    let uses = (0..uses).map(|_| title(random.below(distinct)));
+    constants(seed, uses.collect())
+}
+
+/// A program that names each native of a list once, in random order.
+pub fn natives(seed: u64, names: &[String]) -> Program {
+    let mut random = Random::new(seed + 1);
+    let mut rows: Vec<Row> = names.iter().map(|name| tree::strings(8, &[name])).collect();
+    for last in (1..rows.len()).rev() {
+        rows.swap(last, random.below(last + 1));
+    }
+    constants(seed, rows)
+}
+
+/// So many names of natives.
+pub fn native_names(count: usize) -> Vec<String> {
+    (0..count)
+        .map(|number| format!("stage::cue{number}"))
+        .collect()
+}
+
+/// A chunk of these constants.
+fn constants(seed: u64, constants: Vec<Row>) -> Program {
     Program {
-        chunk: chunk(&mut Random::new(seed), 40, titles),
+        chunk: chunk(&mut Random::new(seed), 40, constants),
         line_index: None,
     }
 }
@@ -67,9 +100,13 @@ fn scene(random: &mut Random, numbers: Range<usize>, distinct: usize) -> Row {
 
 /// The title of a number, which begins with it.
 fn title(number: usize) -> Row {
+    title_of(number, 20..81)
+}
+
+fn title_of(number: usize, lengths: Range<usize>) -> Row {
     let mut random = Random::new(number as u64);
     let begin = format!("{number} ");
-    let length = 20 + random.below(61) - begin.len();
+    let length = lengths.start + random.below(lengths.len()) - begin.len();
     let script = random.pick(&[
         Script::Ascii,
         Script::Latin,

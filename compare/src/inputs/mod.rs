@@ -5,6 +5,7 @@ pub mod loads;
 pub mod loans;
 pub mod numbers;
 pub mod payloads;
+pub mod pools;
 pub mod programs;
 pub mod tables;
 pub mod texts;

@@ -1,8 +1,7 @@
 //! Reading and checking the loads. Lent tables hold what the round before left there: they are not cleared before a call.
 
 use super::in_turn;
-use super::loads::{Load, growing, natives, strings_load};
-use crate::inputs::loads::NATIVES;
+use super::loads::{Load, growing, natives_load, short_strings_load, strings_load};
 use original::native::Module;
 use original::{Chunk, LineIndex};
 use port::ReadCall;
@@ -32,6 +31,8 @@ fn run<T>(seed: u64, ours: ReadCall, original: impl Fn(&[u8], &Module) -> T) {
         "", "ours, ms", "Rust, ms", "ours/Rust", "ours, ns/byte"
     );
     measure(&strings_load(seed), ours, &original);
+    measure(&short_strings_load(seed), ours, &original);
+    measure(&natives_load(seed), ours, &original);
     let per_byte: Vec<f64> = growing(seed)
         .map(|load| measure(&load, ours, &original))
         .collect();
@@ -41,14 +42,14 @@ fn run<T>(seed: u64, ours: ReadCall, original: impl Fn(&[u8], &Module) -> T) {
 
 /// Prints the times of a load; the nanoseconds that ours takes for a byte.
 fn measure<T>(load: &Load, ours: ReadCall, original: &impl Fn(&[u8], &Module) -> T) -> f64 {
-    let natives = natives();
+    let natives = load.natives();
     let mut lent = load.tables.clone();
     let mut answer = [0; 9];
     let (our_time, rust_time) = in_turn(
         || {
             let number = ours(
                 &load.payload,
-                NATIVES,
+                &load.names,
                 &mut lent.rows,
                 &mut lent.spans,
                 &mut lent.starts,
