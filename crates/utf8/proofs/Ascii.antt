@@ -1,6 +1,6 @@
 -- The high bits of a word tell which of its bytes are ASCII: all where they are 0, and those below the lowest one set.
 use mathlib.Core.Path.{_≡_, refl, sym, ap, _∙_, subst}
-use mathlib.Core.Bool.{Bool, true, _&&_, and-eq-true-iff}
+use mathlib.Core.Bool.{Bool, true, _&&_}
 use mathlib.Core.Logic.{⊎-elim}
 use mathlib.Core.List.{List}
 use Prim.Native.Nat.{ℕ, zero, suc, _+_, _*_, _^_, _/_, _%_, _≤_, _<_}
@@ -17,6 +17,7 @@ use Rattle.slices.specs.LittleEndian.{fromLeBytes}
 use Rattle.slices.specs.Laws.LittleEndian.{Bytes, bytes-first}
 use Rattle.utf8.specs.Skips.{Ascii, highBits}
 use Rattle.utf8.specs.Laws.Utf8.{le-or-lt}
+use Rattle.utf8.proofs.Runs.{run-and}
 
 -- a byte whose bit 7 is clear is ASCII
 bit-clear : (b : ℕ) → b < 256 → bitAnd b 128 ≡ 0 → b < 128
@@ -84,12 +85,6 @@ module _ (s : List ℕ) (i : ℕ) (h : i + 8 ≤ length s) (small : Bytes s) whe
       let m = highBits s i in
       first-bytes n 8 s i l h small (ap (λ (k : ℕ). m % 2 ^ (8 * k)) e ∙ whole-bytes m _ (trailing-mod 64 m))
 
--- two runs, of which the second begins where the first ends, or before
-ascii-join : (s : List ℕ) (f i h j : ℕ) → h ≤ i → Ascii s f i → Ascii s h j → Ascii s f j
-ascii-join s f i h j l p q k a b = ⊎-elim (λ c. q k (omega arith) b) (λ c. p k a c) (le-or-lt i k)
-
 -- two tests of runs, end to end
 pub ascii-and : (s : List ℕ) (f i j : ℕ) (p q : Bool) → (p ≡ true → Ascii s f i) → (q ≡ true → Ascii s i j) → p && q ≡ true → Ascii s f j
-ascii-and s f i j p q a b e =
-    let both = and-eq-true-iff p q .0 e in
-    ascii-join s f i i j (omega arith) (a (both .0)) (b (both .1))
+ascii-and s = run-and (λ k. getD s k 0 < 0x80)

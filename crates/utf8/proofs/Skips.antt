@@ -1,16 +1,23 @@
 -- How `Skips` is made and joined.
 use mathlib.Core.Path.{_≡_, refl, _∙_}
-use mathlib.Core.Bool.{true}
+use mathlib.Core.Bool.{Bool, true, false, cond}
 use mathlib.Core.List.{List}
 use Prim.Native.Nat.{ℕ, _+_, _≤_, _<_}
 use native.Mathlib.Omega.{arith}
+use lib.Dec.{leb}
 use lib.ListN.{length, getD}
 use Rattle.utf8.specs.Utf8.{isTwo, isThree, charAt}
+use Rattle.utf8.specs.Pairs.{beginsShort, Follows, wholeEnd}
 use Rattle.utf8.specs.Skips.{Ascii, Skips}
 use Rattle.utf8.specs.Laws.Utf8.{utf8-ascii, utf8-run, utf8-two, utf8-three, utf8-step, char-fits}
+use Rattle.utf8.specs.Laws.Pairs.{utf8-pairs}
 
 pub skips-on : {s : List ℕ} {h i j : ℕ} → Skips s h i → Skips s i j → Skips s h j
 skips-on p q = record { up = omega arith; inside = q .inside; same = p .same ∙ q .same }
+
+end-near : (t : Bool) (j : ℕ) → (j ≤ cond t (j + 1) j) × (cond t (j + 1) j ≤ j + 1)
+end-near true j = (omega arith, omega arith)
+end-near false j = (omega arith, omega arith)
 
 module _ (s : List ℕ) (i : ℕ) where
   pub skips-none : i ≤ length s → Skips s i i
@@ -30,3 +37,8 @@ module _ (s : List ℕ) (i : ℕ) where
 
   pub skips-char : (w : ℕ) → i < length s → charAt s i ≡ w → (w ≡ 0 → ⊥) → Skips s i (i + w)
   skips-char w h e n = record { up = omega arith; inside = omega (arith, char-fits s i h); same = utf8-step s i h w e n }
+
+  pub skips-pairs : (j : ℕ) → i ≤ j → j < length s → beginsShort (getD s i 0) ≡ true → Follows s i j → Skips s i (wholeEnd s j)
+  skips-pairs j a h b f =
+      let n = end-near (leb (getD s j 0) 0xBF) j in
+      record { up = omega arith; inside = omega arith; same = utf8-pairs s i b j a h f }

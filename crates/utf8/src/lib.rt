@@ -3,6 +3,7 @@ ghost use mathlib.Core.Path.{_≡_};
 ghost use mathlib.Core.Bool.{true};
 ghost use Prim.Native.Nat.{_+_, _≤_, _<_};
 ghost use lib.ListN.{length, getD};
+ghost use Rattle.utf8.specs.Pairs.{beginsTwo, beginsShort, canFollow, Follows, wholeEnd};
 ghost use Rattle.utf8.specs.Skips.{Ascii, highBits, Skips};
 ghost use Rattle.utf8.specs.Utf8.{isTail, isTwo, isThree, isFour, charAt, isUtf8, partIsUtf8};
 
@@ -20,11 +21,18 @@ fn tail(b: u8) -> bool
     (0x80 <= b) & (b <= 0xBF)
 }
 
+// Whether a is the first byte of a UTF8-2.
+fn begins_two(a: u8) -> bool
+    ensures { λ r. ⌜ r ≡ beginsTwo a ⌝ }
+{
+    (0xC2 <= a) & (a <= 0xDF)
+}
+
 // Whether a, b are a UTF8-2.
 fn two(a: u8, b: u8) -> bool
     ensures { λ r. ⌜ r ≡ isTwo a b ⌝ }
 {
-    (0xC2 <= a) & (a <= 0xDF) & tail(b)
+    begins_two(a) & tail(b)
 }
 
 // Whether a, b, c are a UTF8-3, where a is one of E0 to EF.
@@ -216,11 +224,82 @@ fn skip_run(s: &[u8], from: usize, w: usize) -> usize
     from
 }
 
+// Whether a is a UTF8-1 or the first byte of a UTF8-2.
+fn begins_short(a: u8) -> bool
+    ensures { λ r. ⌜ r ≡ beginsShort a ⌝ }
+{
+    (a <= 0x7F) | begins_two(a)
+}
+
+// Whether b can stand after a, where characters have one or two bytes.
+fn can_follow(a: u8, b: u8) -> bool
+    ensures { λ r. ⌜ r ≡ canFollow a b ⌝ }
+{
+    two(a, b) | (!begins_two(a) & begins_short(b))
+}
+
+// Whether each of the sixteen bytes behind index i can stand after the one before it; `false` says nothing. Without an exit, so that it is compiled to
+// vectors.
+fn block_follows(s: &[u8], i: usize) -> bool
+    requires { ⌜ i + 16 < length (now s) ⌝ }
+    ensures { λ r. ⌜ (r ≡ true → Follows (now (s .entry)) i (i + 16)) ⌝ }
+{
+    let end = i + 16;
+    let mut all = true;
+    let mut k = i;
+    while k < end {
+        all = all & can_follow(s[k], s[k + 1]);
+        k += 1;
+    }
+    all
+}
+
+// Where the last whole character ends, where the bytes up to i are such characters.
+fn whole_end(s: &[u8], i: usize) -> usize
+    requires { ⌜ i < length (now s) ⌝ }
+    ensures { λ r. ⌜ r ≡ wholeEnd (now (s .entry)) i ⌝ }
+{
+    if s[i] <= 0xBF { i + 1 } else { i }
+}
+
+// Past characters of one and two bytes, by sixteen pairs of neighbours at a time. The last sixteen end where s ends, and may begin before the place.
+fn skip_pairs(s: &[u8], from: usize) -> usize
+    requires { ⌜ (16 < length (now s)) × (from ≤ length (now s)) ⌝ }
+    ensures { λ r. ⌜ Skips (now (s .entry)) from r ⌝ }
+{
+    if s.len() <= from {
+        return from;
+    }
+    if !begins_short(s[from]) {
+        return from;
+    }
+    let last = s.len() - 17;
+    let mut i = from;
+    while i < s.len() - 1 {
+        let at = if i < last { i } else { last };
+        if !block_follows(s, at) {
+            return whole_end(s, i);
+        }
+        i = at + 16;
+    }
+    whole_end(s, i)
+}
+
+// Past the characters at the front: ASCII by blocks and then pairs, or words where s is too short for these.
+fn skip_front(s: &[u8]) -> usize
+    ensures { λ r. ⌜ Skips (now (s .entry)) 0 r ⌝ }
+{
+    if s.len() < 17 {
+        return skip_words(s, 0);
+    }
+    skip_pairs(s, skip_blocks(s, 0))
+}
+
 // Whether s is UTF-8.
 pub fn is_utf8(s: &[u8]) -> bool
     ensures { λ r. ⌜ r ≡ isUtf8 (now (s .entry)) ⌝ }
 {
-    let mut i = skip_words(s, 0);
+    let mut i = skip_front(s);
     while i < s.len() {
         if s[i] < 0x80 {
             i = skip_ascii(s, i + 1);

@@ -30,7 +30,7 @@ one-char c =
     skips-char _ _ _ (loop-test .taken) (sym (c .before .char-at .ensures)) (c .if2 .left)
 
 loop-holds : tie.Need-loop-holds Inv-loop μ-loop
-loop-holds c = c .skip-words .ensures
+loop-holds c = c .skip-front .ensures
 
 loop-again : tie.Need-loop-again Inv-loop μ-loop
 loop-again c =

@@ -9,4 +9,4 @@ unfolding isTwo
 returns c = cc
 
 pub two-spec : {M : Type 1} → statement M
-two-spec = tie.close (tie.spec (λ c κs. search needs) returns)
+two-spec = tie.close (tie.spec (λ c κs. search needs) (λ c κs. search needs) returns)

@@ -170,7 +170,7 @@ unfolding passes
 utf8-end s i h = rw (drop-of-length-le s h)
 
 -- over a run of ASCII
-same-drop : (s : List ℕ) (m n : ℕ) → m ≡ n → isUtf8 (drop m s) ≡ isUtf8 (drop n s)
+pub same-drop : (s : List ℕ) (m n : ℕ) → m ≡ n → isUtf8 (drop m s) ≡ isUtf8 (drop n s)
 same-drop s m n e = ap (λ (k : ℕ). isUtf8 (drop k s)) e
 
 ascii-count : (s : List ℕ) (i n : ℕ) → i + n ≤ length s → Ascii s i (i + n) → isUtf8 (drop i s) ≡ isUtf8 (drop (i + n) s)

@@ -1,0 +1,11 @@
+-- ASCII and then pairs, end to end.
+use borrow.Author.Needs.{needs}
+use Rattle.utf8.proofs.Skips.{skips-on}
+use Rattle.utf8.proofs.skip_front.Statement.{statement}
+use Rattle.utf8.proofs.skip_front.Tie as tie
+
+returns-2 : tie.Need-returns-2
+returns-2 c = skips-on (c .before .skip-blocks .ensures) (c .skip-pairs .ensures)
+
+pub skip-front-spec : {M : Type 1} → statement M
+skip-front-spec = tie.close (tie.spec (λ c κs. search needs) (λ c. search needs) (λ c κs. search needs) (λ c κs. search needs) returns-2)
