@@ -76,6 +76,9 @@ pub fn emit_varint(comparing: bool, payload: &[u8], out: &mut [u8], at: usize, n
     requires { ⌜ Ready comparing (now out) at ⌝ }
     ensures { λ r. ⌜ Emitted comparing (now (payload .entry)) (now (out .entry)) (now (out .exit)) at r (uleb128 n) ⌝ }
 {
+    if n < 128 {
+        return emit_byte(comparing, payload, out, at, n as u8);
+    }
     if !comparing {
         if out.len() <= at {
             return advance(at, varint::uvarint_width(n));

@@ -2,7 +2,7 @@
 ghost use mathlib.Core.Path.{_≡_};
 ghost use mathlib.Core.Bool.{cond};
 ghost use mathlib.Core.List.{[], _∷_, _++_};
-ghost use Prim.Native.Nat.{_/_, _^_, _≤_, _<_};
+ghost use Prim.Native.Nat.{_+_, _/_, _^_, _≤_, _<_};
 ghost use lib.ListN.{length};
 ghost use lib.IntN.{pos, _-ℤ_};
 ghost use Rattle.varint.specs.Uleb128.{uleb128};
@@ -142,12 +142,78 @@ fn run_end(spans: &[u64], k: usize, a: u64, b: u64) -> usize
     l
 }
 
-// The run count and the runs.
+// The one number or the other. A choice of values, so that there is no branch on the test.
+fn either(test: bool, a: usize, b: usize) -> usize
+    ensures { λ r. ⌜ r ≡ cond test a b ⌝ }
+{
+    if test { a } else { b }
+}
+
+// How many bytes the ULEB128 of a number has.
+fn width(n: u64) -> usize
+    ensures { λ r. ⌜ (r ≡ length (uleb128 n)) × (r ≤ 10) ⌝ }
+{
+    varint::uvarint_width(n)
+}
+
+// How many bytes the count n of a run that ends and the deltas x and y of the next one have; none where no run ends. Most have one byte each.
+fn boundary_width(ends: bool, n: u64, x: u64, y: u64) -> usize
+    ensures { λ r. ⌜ (r ≡ cond ends (length (uleb128 n) + (length (uleb128 x) + length (uleb128 y))) 0) × (r ≤ 30) ⌝ }
+{
+    if ((x < 128) & (y < 128)) & (n < 128) {
+        return 3 * one_if(ends);
+    }
+    if ends {
+        return width(n) + (width(x) + width(y));
+    }
+    0
+}
+
+// How many bytes the run count and the runs have, in one pass over the spans.
+fn runs_length(spans: &[u64]) -> usize
+    requires { ⌜ Positions (now spans) ⌝ }
+    ensures { λ r. ⌜ r ≡ length (writeRuns (spansOf (now (spans .entry)))) ⌝ }
+{
+    let count = spans.len() / 2;
+    if count == 0 {
+        return 1;
+    }
+    let mut a = spans[0];
+    let mut b = spans[1];
+    let mut runs: usize = 1;
+    let mut begun: usize = 0;
+    let mut length = width(zigzag_delta(0, a)) + width(zigzag_delta(0, b));
+    let mut k: usize = 1;
+    while k < count {
+        let ends = !is_span(spans, k, a, b);
+        let c = spans[2 * k];
+        let d = spans[2 * k + 1];
+        length += boundary_width(
+            ends,
+            (k - begun) as u64,
+            zigzag_delta(a, c),
+            zigzag_delta(b, d),
+        );
+        runs += one_if(ends);
+        begun = either(ends, k, begun);
+        a = c;
+        b = d;
+        k += 1;
+    }
+    width(runs as u64) + (length + width((count - begun) as u64))
+}
+
+// The run count and the runs. Where there is no output only their length counts.
 pub fn write_runs(comparing: bool, payload: &[u8], out: &mut [u8], spans: &[u64]) -> usize
     requires { ⌜ Ready comparing (now out) 0 ⌝ }
     requires { ⌜ Positions (now spans) ⌝ }
     ensures { λ r. ⌜ Emitted comparing (now (payload .entry)) (now (out .entry)) (now (out .exit)) 0 r (writeRuns (spansOf (now (spans .entry)))) ⌝ }
 {
+    if !comparing {
+        if out.len() == 0 {
+            return emit::advance(0, runs_length(spans));
+        }
+    }
     let count = spans.len() / 2;
     let mut at = emit::emit_varint(comparing, payload, out, 0, count_runs(spans) as u64);
     let mut start: u64 = 0;

@@ -117,7 +117,7 @@ fn expect_next(expected: usize, found: usize) -> usize {
     expected
 }
 
-// A string's index.
+// A string's index. Past the output only its length counts: among at most 127 strings every index has one byte, and is not looked for.
 fn write_index(
     comparing: bool,
     payload: &[u8],
@@ -132,6 +132,16 @@ fn write_index(
     requires { ⌜ distinct (poolStrings (now store) (now pool)) ≡ true ⌝ }
     ensures { λ r. ⌜ Emitted comparing (now (payload .entry)) (now (out .entry)) (now (out .exit)) (st .at) (r .at) (uleb128 (indexOf (bytesAt (now (store .entry)) o n) (poolStrings (now (store .entry)) (now (pool .entry))))) ⌝ }
 {
+    if !comparing {
+        if out.len() <= st.at {
+            if pool.len() < 256 {
+                return Step {
+                    at: emit::advance(st.at, 1),
+                    expected: st.expected,
+                };
+            }
+        }
+    }
     let k = pool_index::lookup(store, pool, st.expected, o, n);
     let at = emit::emit_varint(comparing, payload, out, st.at, k as u64);
     Step {

@@ -1,7 +1,7 @@
 -- Laws of spans in a table of words: their maximal runs one after another, and the bytes of the runs from a span on.
 use mathlib.Core.Bool.{Bool, true, false, cond, not, _&&_, _||_}
 use mathlib.Core.List.{List, [], _∷_, _++_}
-use mathlib.Core.Path.{_≡_, refl, sym, ap, _∙_}
+use mathlib.Core.Path.{_≡_, refl, sym, ap, ap₂, _∙_}
 use Prim.Native.Nat.{ℕ, zero, suc, _+_, _-_, _*_, _/_, _^_, _≤_, _<_}
 use native.Mathlib.Numerals.{add-one}
 use native.Mathlib.Omega.{arith}
@@ -18,7 +18,7 @@ use Rattle.write_code.specs.Runs.{span, spanAt, leadingTrues, repeated, 
 
 ---- runs
 
-same-span-eq : (a b : Span) → sameSpan a b ≡ true → a ≡ b
+pub same-span-eq : (a b : Span) → sameSpan a b ≡ true → a ≡ b
 unfolding sameSpan
 same-span-eq a b e = λ i. record { start = eqb-true (a .start) (b .start) (and-left _ _ e) i; end = eqb-true (a .end) (b .end) (and-right _ _ e) i }
 
@@ -87,7 +87,7 @@ spans-next : (ws : List ℕ) (k : ℕ) → k < length ws / 2 → spansOf (drop (
 unfolding spansOf
 spans-next ws k h = rw (two ws k (omega arith))
 
-spans-end : (ws : List ℕ) (k : ℕ) → length ws / 2 ≤ k → spansOf (drop (2 * k) ws) ≡ []
+pub spans-end : (ws : List ℕ) (k : ℕ) → length ws / 2 ≤ k → spansOf (drop (2 * k) ws) ≡ []
 spans-end ws k h = go (drop (2 * k) ws) (omega (arith, length-drop (2 * k) ws))
   where
     go : (l : List ℕ) → length l < 2 → spansOf l ≡ []
@@ -228,16 +228,21 @@ module _ (ws : List ℕ) (s : Span) (k : ℕ) where
 unfoldable pub runsFrom : List ℕ → ℕ → ℕ → ℕ → List ℕ
 runsFrom ws k s e = writeDeltas (span s e) (runsOf (spansOf (drop (2 * k) ws)))
 
--- the bytes of one run, and the rest
-pub runs-from-run : (ws : List ℕ) (k l s e : ℕ) → k < length ws / 2 → RunEnd ws (spanAt ws k) k l
-    → runsFrom ws k s e ≡ ((writeDelta s (getD ws (2 * k) 0) ++ writeDelta e (getD ws (2 * k + 1) 0)) ++ uleb128 (l - k)) ++ runsFrom ws l (getD ws (2 * k) 0) (getD ws (2 * k + 1) 0)
-unfolding runsFrom writeDeltas runEnd
-runs-from-run ws k l s e h t =
+-- the run that begins with span k, and the rest
+pub run-at : (ws : List ℕ) (k l : ℕ) → k < length ws / 2 → l ≡ runEnd ws (spanAt ws k) k
+    → runsOf (spansOf (drop (2 * k) ws)) ≡ record { span = spanAt ws k; count = l - k } ∷ runsOf (spansOf (drop (2 * l) ws))
+unfolding runEnd
+run-at ws k l h e =
     let n = repeated (spanAt ws k) (spansOf (drop (2 * (k + 1)) ws)) in
-    let c : suc n ≡ l - k = omega (arith, t .is) in
-    let f : runsOf (spansOf (drop (2 * k) ws)) ≡ record { span = spanAt ws k; count = suc n } ∷ runsOf (spansOf (drop (2 * l) ws)) =
-    ap runsOf (spans-next ws k h) ∙ runs-first _ _ ∙ ap (λ (x : List Span). record { span = spanAt ws k; count = suc n } ∷ runsOf x) (spans-after ws (k + 1) n ∙ ap (λ (m : ℕ). spansOf (drop (2 * m) ws)) (sym (t .is))) in
-    rw (f, c)
+    let c : suc n ≡ l - k = omega arith in
+    ap runsOf (spans-next ws k h) ∙ runs-first _ _
+    ∙ ap₂ (λ (m : ℕ) (x : List Span). record { span = spanAt ws k; count = m } ∷ runsOf x) c (spans-after ws (k + 1) n ∙ ap (λ (m : ℕ). spansOf (drop (2 * m) ws)) (sym e))
+
+-- the bytes of one run, and the rest
+pub runs-from-run : (ws : List ℕ) (k l s e : ℕ) → k < length ws / 2 → l ≡ runEnd ws (spanAt ws k) k
+    → runsFrom ws k s e ≡ ((writeDelta s (getD ws (2 * k) 0) ++ writeDelta e (getD ws (2 * k + 1) 0)) ++ uleb128 (l - k)) ++ runsFrom ws l (getD ws (2 * k) 0) (getD ws (2 * k + 1) 0)
+unfolding runsFrom writeDeltas
+runs-from-run ws k l s e h t = rw (run-at ws k l h t)
 
 pub runs-from-end : (ws : List ℕ) (k s e : ℕ) → length ws / 2 ≤ k → runsFrom ws k s e ≡ []
 unfolding runsFrom runsOf writeDeltas
