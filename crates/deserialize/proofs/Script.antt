@@ -66,20 +66,20 @@ stored-cleared :
     table″ ≡ padTo (length table) used
 stored-cleared table used n e h s z = rw (s, e) at z ∙ zeroFrom-put table used (omega arith)
 
-module _ (names : List ℕ) {limits : Capacities} {p pool rows rows₁ spans spans₁ : List ℕ} (at : ℕ) {s : State} {outer : Node Part}
-    (ran : Ran oneTree limits p rows rows₁ spans spans₁ 0 0 s outer (readChunk (context limits p names pool) (stateAt p at 0 0))) where
-  pub no-lines-read : {n q : ℕ} → InContext p pool (limits .starts) (s .at) readLineIndex (stopped n q)
-      → readScript (context limits p names pool) (stateAt p at 0 0) ≡ refused n q
+module _ (names : List ℕ) {capacities : Capacities} {p pool rows rows₁ spans spans₁ : List ℕ} (at : ℕ) {s : State} {outer : Node Part}
+    (ran : Ran oneTree capacities p rows rows₁ spans spans₁ 0 0 s outer (readChunk (context capacities p names pool) (stateAt p at 0 0))) where
+  pub no-lines-read : {n q : ℕ} → InContext p pool (capacities .starts) (s .at) readLineIndex (stopped n q)
+      → readScript (context capacities p names pool) (stateAt p at 0 0) ≡ refused n q
   no-lines-read g =
-      script-no-lines (context limits p names pool) (stateAt p at 0 0) (ran .is) (g .reads limits names refl .is (s .rows) (s .spans))
+      script-no-lines (context capacities p names pool) (stateAt p at 0 0) (ran .is) (g .reads capacities names refl .is (s .rows) (s .spans))
 
-  module _ (fit : Fit limits p rows spans (startAt at))
+  module _ (fit : Fit capacities p rows spans (startAt at))
       (whole : length pool ≡ 2 * (length pool / 2)) (inside : PoolFits p pool) where
     pub accepted-leaves :
-        {starts starts₁ rows′ spans′ starts′ : List ℕ} {l : LineIndexAt} → limits .starts ≤ length starts →
-        Accepted p pool starts starts₁ (limits .starts) (s .at) readLineIndex l →
+        {starts starts₁ rows′ spans′ starts′ : List ℕ} {l : LineIndexAt} → capacities .starts ≤ length starts →
+        Accepted p pool starts starts₁ (capacities .starts) (s .at) readLineIndex l →
         rows′ ≡ zeroFrom (rowWidth * s .rows) rows₁ → spans′ ≡ zeroFrom (2 * s .spans) spans₁ → starts′ ≡ zeroFrom (l .starts) starts₁ →
-        ScriptLeaves (readScript (context limits p names pool) (stateAt p at 0 0)) pool rows spans starts rows′ spans′ starts′
+        ScriptLeaves (readScript (context capacities p names pool) (stateAt p at 0 0)) pool rows spans starts rows′ spans′ starts′
         (read.Accepted
         (record {
           consumed = l .next;
@@ -93,7 +93,7 @@ module _ (names : List ℕ) {limits : Capacities} {p pool rows rows₁ spans spa
         }))
     unfolding contextOf readAnswer usedRows usedSpans usedStarts usedPool
     accepted-leaves {starts} room g a b c =
-        rw (script-ok (context limits p names pool) (stateAt p at 0 0) (ran .is) (g .is .reads limits names refl .is (s .rows) (s .spans)))
+        rw (script-ok (context capacities p names pool) (stateAt p at 0 0) (ran .is) (g .is .reads capacities names refl .is (s .rows) (s .spans)))
         (record {
           answer = cc (length-partsOf p pool);
           rows-are = stored-cleared rows (rowsIn oneTree outer) (rowWidth * s .rows) (omega (arith, ran .size)) (omega (arith, ran .used, fit .room)) (ran .wrote) a;

@@ -6,15 +6,17 @@ use native.Mathlib.Omega.{arith}
 use lib.ListN.{length, take}
 use lib.Seq.{length-take-le}
 use borrow.Author.Tests.{le-ltb, lt-ltb}
+use Rattle.payload.specs.Answers.{readFields}
 use Rattle.payload.specs.Choice.{if_then_else_}
+use Rattle.payload.specs.Laws.Contracts.{fields-are}
 use Rattle.payload.specs.Reader.{Result, andThen, refused, start, _>>=_}
 use Rattle.payload.specs.Reading.{Payload, readPayload, readPool}
 use Rattle.payload.specs.declared.Capacities.{Capacities}
-use Rattle.payload.specs.Tables as tables
-use Rattle.payload.specs.Tables.{Leaves, capacitiesOf, partsWords, reading, sizeLimit, usedPool}
+use Rattle.payload.specs.Tables.{Leaves, capacitiesOf, fieldsOf, limits, partsWords, reading, sizeLimit, usedPool}
 use Rattle.payload.specs.declared.Read.{Read}
 use Rattle.payload.specs.declared.Read.the-variants as read
 use Rattle.slices.specs.Zeros.{padTo, zeroFrom, zeros}
+use Rattle.slices.specs.Laws.LittleEndian.{Bytes}
 use Rattle.slices.specs.Laws.Put.{length-put}
 use Rattle.slices.specs.Laws.Zeros.{padTo-nil, zeroFrom-padTo}
 use Rattle.read_items.specs.Context.{PoolFits, contextOf}
@@ -27,24 +29,24 @@ use Rattle.deserialize.proofs.Script.{refused-leaves}
 
 ---- capacities
 
-module _ {limits : Capacities} (rows spans starts pool : ℕ) (e : limits ≡ capacitiesOf rows spans starts pool) where
-  pub strings-fit : 2 * limits .strings ≤ pool
+module _ {capacities : Capacities} (rows spans starts pool : ℕ) (e : capacities ≡ capacitiesOf rows spans starts pool) where
+  pub strings-fit : 2 * capacities .strings ≤ pool
   unfolding capacitiesOf
   strings-fit = omega (arith, ap (λ (c : Capacities). c .strings) e)
 
-  pub strings-few : limits .strings ≤ tables.limits .strings
+  pub strings-few : capacities .strings ≤ limits .strings
   unfolding capacitiesOf
   strings-few = omega (arith, ap (λ (c : Capacities). c .strings) e)
 
-  pub starts-fit : limits .starts ≤ starts
+  pub starts-fit : capacities .starts ≤ starts
   unfolding capacitiesOf
   starts-fit = omega (arith, ap (λ (c : Capacities). c .starts) e)
 
 -- the outer chunk is read into tables of which nothing is used
 pub tables-fit :
-    {limits : Capacities} {p : List ℕ} {at : ℕ} (rows spans : List ℕ) (starts pool : ℕ) →
-    limits ≡ capacitiesOf (length rows) (length spans) starts pool → at ≤ length p →
-    Fit limits p rows spans (startAt at)
+    {capacities : Capacities} {p : List ℕ} {at : ℕ} (rows spans : List ℕ) (starts pool : ℕ) →
+    capacities ≡ capacitiesOf (length rows) (length spans) starts pool → at ≤ length p →
+    Fit capacities p rows spans (startAt at)
 unfolding capacitiesOf
 tables-fit rows spans starts pool e h =
     let r = ap (λ (c : Capacities). c .rows) e in
@@ -82,14 +84,15 @@ module _ (c : Capacities) (names p : List ℕ) (h : length p ≤ sizeLimit) wher
 
   -- the pool table was lent up to its used words
   module _ {pool pool₁ : List ℕ} {n next : ℕ} (room : 2 * c .strings ≤ length pool) (a : Accepted p pool pool₁ (c .strings) n next) (m : ℕ) (e : m ≡ 2 * n) where
-    pub payload-leaves : {rows spans starts rows′ spans′ starts′ pool′ : List ℕ} {r : Read}
+    pub payload-leaves : Bytes p → {rows spans starts rows′ spans′ starts′ pool′ : List ℕ} {r : Read}
         → ScriptLeaves (readScript (contextOf c p names (take m pool₁)) (stateAt p next 0 0)) (take m pool₁) rows spans starts rows′ spans′ starts′ r
         → pool′ ≡ padTo (length pool) (poolUsed r (take m pool₁))
         → Leaves (reading c names p) rows spans starts pool rows′ spans′ starts′ pool′ r
-    payload-leaves f z =
+    payload-leaves bytes f z =
         let g = rw e at f in
         rw (script-after-pool a) (record {
           answer = g .answer;
+          fields = ap readFields (g .answer) ∙ fields-are c names p bytes _ (script-after-pool a);
           rows-are = g .rows-are;
           spans-are = g .spans-are;
           starts-are = g .starts-are;
@@ -108,11 +111,12 @@ pub refused-payload :
     {x : Result Payload} {n q : ℕ} {rows spans starts pool rows′ spans′ starts′ pool′ : List ℕ} → x ≡ refused n q →
     rows′ ≡ zeros (length rows) → spans′ ≡ zeros (length spans) → starts′ ≡ zeros (length starts) → pool′ ≡ zeros (length pool) →
     Leaves x rows spans starts pool rows′ spans′ starts′ pool′ (read.Refused n q)
-unfolding usedPool
+unfolding fieldsOf usedPool
 refused-payload {rows = rows} {spans} {starts} {pool} e a b c d =
     let f = refused-leaves {pool = []} {rows = rows} {spans = spans} {starts = starts} e a b c in
     record {
       answer = f .answer;
+      fields = rw e refl;
       rows-are = f .rows-are;
       spans-are = f .spans-are;
       starts-are = f .starts-are;

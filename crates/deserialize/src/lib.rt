@@ -36,21 +36,21 @@ fn read_script(
     rows: &mut [u64],
     spans: &mut [u64],
     starts: &mut [u32],
-    limits: Capacities,
+    capacities: Capacities,
     at: usize,
 ) -> Read
-    requires { ⌜ Fit limits (now bytes) (now rows) (now spans) (startAt at) ⌝ }
-    requires { ⌜ limits .starts ≤ length (now starts) ⌝ }
+    requires { ⌜ Fit capacities (now bytes) (now rows) (now spans) (startAt at) ⌝ }
+    requires { ⌜ capacities .starts ≤ length (now starts) ⌝ }
     requires { ⌜ (length (now pool) ≡ 2 * (length (now pool) / 2)) × PoolFits (now bytes) (now pool) ⌝ }
-    ensures { λ r. ⌜ ScriptLeaves (readScript (context limits (now (bytes .entry)) (now (names .entry)) (now (pool .entry))) (stateAt (now (bytes .entry)) at 0 0))
+    ensures { λ r. ⌜ ScriptLeaves (readScript (context capacities (now (bytes .entry)) (now (names .entry)) (now (pool .entry))) (stateAt (now (bytes .entry)) at 0 0))
         (now (pool .entry)) (now (rows .entry)) (now (spans .entry)) (now (starts .entry)) (now (rows .exit)) (now (spans .exit)) (now (starts .exit)) r ⌝ }
 {
-    match read_values::read_outer(bytes, names, pool, rows, spans, limits, at) {
+    match read_values::read_outer(bytes, names, pool, rows, spans, capacities, at) {
         Step::Done(state) => match read_lines::read_line_index(
             bytes,
             pool,
             starts,
-            limits.starts,
+            capacities.starts,
             state.at,
         ) {
             LinesAt::Lines(lines) => {
@@ -99,13 +99,13 @@ pub fn deserialize_payload(
         slices::zero_u64_from(pool, 0);
         return Read::Refused(16, 0);
     }
-    let limits = Capacities::of(rows.len(), spans.len(), starts.len(), pool.len());
-    match read_pool::read_pool(bytes, pool, limits.strings) {
+    let capacities = Capacities::of(rows.len(), spans.len(), starts.len(), pool.len());
+    match read_pool::read_pool(bytes, pool, capacities.strings) {
         PoolAt::Pool(count, next) => {
             let first: usize = 0;
             let end = 2 * count;
             let strings = &pool[first..end];
-            match read_script(bytes, names, strings, rows, spans, starts, limits, next) {
+            match read_script(bytes, names, strings, rows, spans, starts, capacities, next) {
                 Read::Accepted(counts) => {
                     slices::zero_u64_from(pool, end);
                     Read::Accepted(counts)

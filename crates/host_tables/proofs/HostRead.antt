@@ -1,6 +1,6 @@
 -- What a host is left, from what the read or check left and what was put into the answer.
 use mathlib.Core.List.{List}
-use mathlib.Core.Path.{_≡_}
+use mathlib.Core.Path.{_≡_, ap, _∙_}
 use Prim.Native.Nat.{ℕ}
 use Rattle.answer.specs.PutIfRoom.{putIfRoom}
 use Rattle.payload.specs.Reader.{Result}
@@ -13,6 +13,6 @@ use Rattle.host_tables.specs.HostTables.{HostRead}
 pub host-read : {x : Result Payload} {rows spans starts pool rows′ spans′ starts′ pool′ : List ℕ} {r : Read} {answer answer′ : List ℕ} {n : ℕ}
     → Leaves x rows spans starts pool rows′ spans′ starts′ pool′ r → (n ≡ readNumber r) × (answer′ ≡ putIfRoom answer 0 (readFields r))
     → HostRead x rows spans starts pool answer rows′ spans′ starts′ pool′ answer′ n
-host-read l put =
+host-read {answer = answer} l put =
     let e = l .answer in
-    record { number = rw e at (put .0); tables = rw e at l; fields = rw e at (put .1) }
+    record { number = rw e at (put .0); tables = rw e at l; fields = put .1 ∙ ap (putIfRoom answer 0) (l .fields) }

@@ -2,9 +2,9 @@
 ghost use mathlib.Core.Path.{_≡_};
 ghost use lib.ListN.{length, getD};
 ghost use Rattle.slices.specs.Zeros.{padTo};
-ghost use Rattle.payload.specs.Write.{writeAnswer, writtenOver, writtenPool};
+ghost use Rattle.payload.specs.Write.{writeAnswer, writingFields, writtenOver, writtenPool};
 ghost use Rattle.answer.specs.PutIfRoom.{putIfRoom};
-ghost use Rattle.payload.specs.Answers.{writtenNumber, writtenFields};
+ghost use Rattle.payload.specs.Answers.{writtenNumber};
 ghost use Rattle.host_tables.specs.Write.{programOf, hostWriting};
 use payload::Program;
 use payload::Written;
@@ -50,7 +50,7 @@ pub extern "C" fn rlc2_serialize(
     ensures { λ _. ⌜ now (out .exit)
         ≡ writtenOver (hostWriting (now (store .entry)) (now (counts .entry)) (now (rows .entry)) (now (spans .entry)) (now (starts .entry)) (length (now (pool .entry))) (length (now (out .entry)))) (now (out .entry)) ⌝ }
     ensures { λ _. ⌜ now (answer .exit) ≡ putIfRoom (now (answer .entry)) 0
-        (writtenFields (writeAnswer (hostWriting (now (store .entry)) (now (counts .entry)) (now (rows .entry)) (now (spans .entry)) (now (starts .entry)) (length (now (pool .entry))) (length (now (out .entry)))))) ⌝ }
+        (writingFields (hostWriting (now (store .entry)) (now (counts .entry)) (now (rows .entry)) (now (spans .entry)) (now (starts .entry)) (length (now (pool .entry))) (length (now (out .entry))))) ⌝ }
 {
     match serialize::serialize_payload(store, program_of(counts), rows, spans, starts, pool, out) {
         Written::Accepted(length) => {

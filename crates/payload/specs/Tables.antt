@@ -6,6 +6,7 @@ use Prim.Native.Nat.{_/_, min, ℕ}
 use lib.Dec.{ltb}
 use lib.ListN.{length}
 use Rattle.slices.specs.Zeros.{padTo}
+use Rattle.payload.specs.Answers.{readFields}
 use Rattle.payload.specs.Choice.{if_then_else_}
 use Rattle.payload.specs.Names.{isListed}
 use Rattle.payload.specs.Reader.{Part, Result, State, ok, refused, start}
@@ -91,7 +92,6 @@ countsOf u s = record {
   «name_n» = length (lineName (u .script .line) .bytes);
 }
 
--- its number and values are those of `readFields`
 unfoldable pub readAnswer : Result Payload → Read
 readAnswer (ok u s) = read.Accepted (countsOf u s)
 readAnswer (refused n p) = read.Refused n p
@@ -112,9 +112,25 @@ unfoldable pub usedPool : Result Payload → List ℕ
 usedPool (ok u s) = partsWords (u .pool)
 usedPool (refused n p) = []
 
--- What a read or a check leaves: its answer, and every word of the four tables. They were lent with so many words each.
+-- document 01's number and values, where what is used is what stands in the tables
+unfoldable pub fieldsOf : Result Payload → List ℕ
+fieldsOf (ok u s) =
+    0
+    ∷ s .place
+    ∷ length (usedRows (ok u s)) / rowWidth
+    ∷ length (usedSpans (ok u s)) / 2
+    ∷ length (usedStarts (ok u s))
+    ∷ length (usedPool (ok u s)) / 2
+    ∷ lineFlag (u .script .line)
+    ∷ lineName (u .script .line) .offset
+    ∷ length (lineName (u .script .line) .bytes)
+    ∷ []
+fieldsOf (refused n p) = n ∷ p ∷ 0 ∷ 0 ∷ 0 ∷ 0 ∷ 0 ∷ 0 ∷ 0 ∷ []
+
+-- What a read or a check leaves: its answer with document 01's number and values, and every word of the four tables. They were lent with so many words each.
 pub record Leaves (x : Result Payload) (rows spans starts pool rows′ spans′ starts′ pool′ : List ℕ) (r : Read) : Type 0 where
   pub answer : r ≡ readAnswer x
+  pub fields : readFields r ≡ fieldsOf x
   pub rows-are : rows′ ≡ padTo (length rows) (usedRows x)
   pub spans-are : spans′ ≡ padTo (length spans) (usedSpans x)
   pub starts-are : starts′ ≡ padTo (length starts) (usedStarts x)

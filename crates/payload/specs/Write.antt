@@ -7,6 +7,7 @@ use lib.Dec.{eqb, leb, ltb}
 use lib.ListN.{drop, length, take}
 use Rattle.slices.specs.Same.{same}
 use Rattle.slices.specs.Zeros.{padTo}
+use Rattle.payload.specs.Answers.{writtenFields}
 use Rattle.payload.specs.Choice.{_and_, _or_, if_then_else_}
 use Rattle.payload.specs.Pool.{isIn}
 use Rattle.payload.specs.Reader.{Part, Result, ok, refused}
@@ -99,6 +100,11 @@ unfoldable pub writeAnswer : Writing → Written
 writeAnswer (written out pool) = write.Accepted (length out)
 writeAnswer (notWritten n p) = write.Refused n p
 
+-- document 01's number and values: 0 and the writing's length, or number and place
+unfoldable pub writingFields : Writing → List ℕ
+writingFields (written out pool) = 0 ∷ length out ∷ []
+writingFields (notWritten n p) = n ∷ p ∷ []
+
 -- an accepted write leaves the bytes past its length; a refused one all
 unfoldable pub writtenOver : Writing → List ℕ → List ℕ
 writtenOver (written bytes pool) out = bytes ++ drop (length bytes) out
@@ -108,7 +114,9 @@ unfoldable pub writtenPool : Writing → List ℕ
 writtenPool (written out pool) = partsWords pool
 writtenPool (notWritten n p) = []
 
+-- What a write leaves: its answer with document 01's number and values, the output, and every word of the pool table.
 pub record WriteLeaves (x : Writing) (pool out pool′ out′ : List ℕ) (r : Written) : Type 0 where
   pub answer : r ≡ writeAnswer x
+  pub fields : writtenFields r ≡ writingFields x
   pub out-is : out′ ≡ writtenOver x out
   pub pool-is : pool′ ≡ padTo (length pool) (writtenPool x)

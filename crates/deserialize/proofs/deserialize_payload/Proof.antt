@@ -1,5 +1,6 @@
 -- `deserialize_payload` meets its contract: the size, the pool, then what stands after it, and zeros behind the strings.
 use Rattle.slices.specs.Zeros.{zeros}
+use Rattle.slices.specs.Laws.LittleEndian.{Bytes}
 use Rattle.slices.specs.Laws.Zeros.{zeroFrom-zero, padTo-nil}
 use Rattle.read_pool.specs.Laws.PoolRead.{was-pool, no-pool, pool-cleared}
 use Rattle.deserialize.proofs.Tables.{strings-fit, strings-few, starts-fit, tables-fit, pool-room, pool-whole, pool-inside, too-large, no-pool-read, payload-leaves, pool-padded, refused-payload}
@@ -25,42 +26,43 @@ read-pool-requires c κs = strings-fit _ _ _ _ (c .before .of .ensures)
 mul-end : tie.Need-mul-end
 mul-end c =
     let at-read-pool = c .before .before .before .before .before in
-    let limits-of = at-read-pool .before .before .of in
-    omega (arith, was-pool (at-read-pool .read-pool .ensures) (c .before .count .given .1) .fits, strings-few _ _ _ _ (limits-of .ensures))
+    let capacities-of = at-read-pool .before .before .of in
+    omega (arith, was-pool (at-read-pool .read-pool .ensures) (c .before .count .given .1) .fits, strings-few _ _ _ _ (capacities-of .ensures))
 
 part-strings-end : tie.Need-part-strings-end
 part-strings-end c =
     let at-read-pool = c .before .before .before .before .before .before in
-    let limits-of = at-read-pool .before .before .of in
-    pool-room (was-pool (at-read-pool .read-pool .ensures) (c .before .before .count .given .1)) (strings-fit _ _ _ _ (limits-of .ensures))
+    let capacities-of = at-read-pool .before .before .of in
+    pool-room (was-pool (at-read-pool .read-pool .ensures) (c .before .before .count .given .1)) (strings-fit _ _ _ _ (capacities-of .ensures))
 
 read-script-requires : tie.Need-read-script-requires
 read-script-requires c κs =
     let read-pool = c .before .before .before .before .before .before .before .before .before .before .read-pool in
     let count = c .before .before .before .before .before .before .count .given in
-    let limits = c .before .before .before .before .before .before .before .before .before .before .before .before .of .ensures in
+    let capacities-are = c .before .before .before .before .before .before .before .before .before .before .before .before .of .ensures in
     let read = was-pool (read-pool .ensures) (count .1) in
-    let room = strings-fit _ _ _ _ limits in
+    let room = strings-fit _ _ _ _ capacities-are in
     let n = count .0 .0 in
     let e : 2 * n - 0 ≡ 2 * n = omega arith in
-    (tables-fit _ _ _ _ limits (read .inside), (starts-fit _ _ _ _ limits, (pool-whole read room _ e, pool-inside read room _ e)))
+    (tables-fit _ _ _ _ capacities-are (read .inside), (starts-fit _ _ _ _ capacities-are, (pool-whole read room _ e, pool-inside read room _ e)))
 
 returns-2 : tie.Need-returns-2
 returns-2 c =
     let at-counts = c .before .before .before .before .before in
     let at-read-script = at-counts .before .before .before .before .before .before .before .before in
     let at-read-pool = at-read-script .before .before .before .before .before .before .before .before .before .before .before in
-    let limits = at-read-pool .before .before .of in
+    let capacities-of = at-read-pool .before .before .of in
     let x = at-read-pool .before .before .before .before .before .before .before .before .before .before .args in
     let count = at-read-script .before .before .before .before .before .before .before .count .given in
     let read = was-pool (at-read-pool .read-pool .ensures) (count .1) in
-    let room = strings-fit _ _ _ _ (limits .ensures) in
+    let room = strings-fit _ _ _ _ (capacities-of .ensures) in
     let n = count .0 .0 in
     let e : 2 * n - 0 ≡ 2 * n = omega arith in
-    let capacities = limits .result in
+    let capacities = capacities-of .result in
     let fits = at-read-pool .before .before .before .if1 .left in
-    rw (← limits .ensures)
-    (payload-leaves capacities (x .names .now) (x .bytes .now) fits room read _ e (rw (at-counts .counts .given .1) at (at-read-script .read-script .ensures))
+    let bytes : Bytes (x .bytes .now) = λ k. omega (arith, at-read-pool .before .before .before .before .before .before .before .before .before .shared-slice-known .given k) in
+    rw (← capacities-of .ensures)
+    (payload-leaves capacities (x .names .now) (x .bytes .now) fits room read _ e bytes (rw (at-counts .counts .given .1) at (at-read-script .read-script .ensures))
     (pool-padded capacities (x .names .now) (x .bytes .now) fits room read _ e (c .before .before .zero-u64-from2 .ensures)))
 
 returns-3 : tie.Need-returns-3
@@ -69,33 +71,34 @@ returns-3 c =
     let at-read-script = at-n .before .before .before .before .before .before .before .before in
     let at-read-pool = at-read-script .before .before .before .before .before .before .before .before .before .before .before in
     let read-pool = at-read-pool .read-pool in
-    let limits = at-read-pool .before .before .of in
+    let capacities-of = at-read-pool .before .before .of in
     let x = at-read-pool .before .before .before .before .before .before .before .before .before .before .args in
     let count = at-read-script .before .before .before .before .before .before .before .count .given in
     let read = was-pool (read-pool .ensures) (count .1) in
-    let room = strings-fit _ _ _ _ (limits .ensures) in
+    let room = strings-fit _ _ _ _ (capacities-of .ensures) in
     let n = count .0 .0 in
     let e : 2 * n - 0 ≡ 2 * n = omega arith in
-    let capacities = limits .result in
+    let capacities = capacities-of .result in
     let fits = at-read-pool .before .before .before .if1 .left in
-    rw (← limits .ensures)
-    (payload-leaves capacities (x .names .now) (x .bytes .now) fits room read _ e (rw (at-n .n .given .1) at (at-read-script .read-script .ensures))
+    let bytes : Bytes (x .bytes .now) = λ k. omega (arith, at-read-pool .before .before .before .before .before .before .before .before .before .shared-slice-known .given k) in
+    rw (← capacities-of .ensures)
+    (payload-leaves capacities (x .names .now) (x .bytes .now) fits room read _ e bytes (rw (at-n .n .given .1) at (at-read-script .read-script .ensures))
     (c .before .before .zero-u64-from3 .ensures ∙ zeroFrom-zero (read-pool .last .1 .0) ∙ ap zeros (read-pool .kept .1 .0)
     ∙ sym (padTo-nil (length (x .pool .now)))))
 
 returns-4 : tie.Need-returns-4
 returns-4 c =
-    let at-limits-of = c .before .before .before .before .before .before .before .before .before .before .before .before .before .before .before .before
+    let at-capacities-of = c .before .before .before .before .before .before .before .before .before .before .before .before .before .before .before .before
     .before in
-    let limits = at-limits-of .of in
-    let if1 = at-limits-of .before .if1 in
-    let x = at-limits-of .before .before .before .before .before .before .before .before .args in
+    let capacities-of = at-capacities-of .of in
+    let if1 = at-capacities-of .before .if1 in
+    let x = at-capacities-of .before .before .before .before .before .before .before .before .args in
     let cleared = c .before .before .before .before .before .before .clear-script2 .ensures in
     let read-pool = c .before .before .before .before .before .before .before .before .before .before .before .before .before .before .before .read-pool
     .ensures in
     let n = c .before .before .before .before .before .before .before .before .before .before .before .n2 .given .1 in
-    rw (← limits .ensures)
-    (refused-payload (no-pool-read (limits .result) (x .names .now) (x .bytes .now) (if1 .left) (no-pool read-pool n)) (cleared .0) (cleared .1 .0)
+    rw (← capacities-of .ensures)
+    (refused-payload (no-pool-read (capacities-of .result) (x .names .now) (x .bytes .now) (if1 .left) (no-pool read-pool n)) (cleared .0) (cleared .1 .0)
     (cleared .1 .1) (pool-cleared read-pool n))
 
 pub deserialize-payload-spec : {M : Type 1} → statement M

@@ -5,7 +5,7 @@ use Prim.Native.Nat.{ℕ}
 use lib.ListN.{length}
 use Rattle.slices.specs.Zeros.{padTo}
 use Rattle.payload.specs.Tables.{capacitiesOf}
-use Rattle.payload.specs.Write.{Writing, heldTables, writeTables, writeAnswer, writtenOver, writtenPool, WriteLeaves}
+use Rattle.payload.specs.Write.{Writing, heldTables, writeTables, writeAnswer, writingFields, writtenOver, writtenPool, WriteLeaves}
 use Rattle.payload.specs.declared.Program.{Program}
 use Rattle.payload.specs.declared.Written.{Written}
 use Rattle.answer.specs.PutIfRoom.{putIfRoom}
@@ -18,8 +18,7 @@ pub leaves-host : (store counts rows spans starts pool out : List ℕ) {pool′ 
 leaves-host store counts rows spans starts pool out e h = rw e at h
 
 -- number, pool table, output and answer
-pub host-answer : {x : Writing} (pool out : List ℕ) {pool′ out′ : List ℕ} {r s : Written} (answer : List ℕ) {answer′ : List ℕ} → WriteLeaves x pool out pool′ out′ r → r ≡ s → answer′ ≡ putIfRoom answer 0 (writtenFields s)
-    → (writtenNumber s ≡ writtenNumber (writeAnswer x)) × ((pool′ ≡ padTo (length pool) (writtenPool x)) × ((out′ ≡ writtenOver x out) × (answer′ ≡ putIfRoom answer 0 (writtenFields (writeAnswer x)))))
-host-answer pool out answer h e f =
-    let is = sym e ∙ h .answer in
-    (ap writtenNumber is, (h .pool-is, (h .out-is, f ∙ ap (λ (w : Written). putIfRoom answer 0 (writtenFields w)) is)))
+pub host-answer : {x : Writing} (pool out : List ℕ) {pool′ out′ : List ℕ} {r s : Written} (answer : List ℕ) {answer′ : List ℕ}
+    → WriteLeaves x pool out pool′ out′ r → r ≡ s → answer′ ≡ putIfRoom answer 0 (writtenFields s)
+    → (writtenNumber s ≡ writtenNumber (writeAnswer x)) × ((pool′ ≡ padTo (length pool) (writtenPool x)) × ((out′ ≡ writtenOver x out) × (answer′ ≡ putIfRoom answer 0 (writingFields x))))
+host-answer pool out answer h e f = (ap writtenNumber (sym e ∙ h .answer), (h .pool-is, (h .out-is, f ∙ ap (putIfRoom answer 0) (ap writtenFields (sym e) ∙ h .fields))))

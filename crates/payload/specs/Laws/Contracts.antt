@@ -1,5 +1,5 @@
 -- Demand 3 on what the contracts of the read and of the house check say: the check answers 0 exactly for the writings of sound programs that the tables hold,
--- and then a read into tables of the same lengths gives that program back.
+-- and then a read into tables of the same lengths gives that program back. The number and values of an answer are document 01's.
 use mathlib.Core.Bool.{true}
 use mathlib.Core.List.{List, [], _∷_}
 use mathlib.Core.Logic.{_↔_}
@@ -9,11 +9,11 @@ use native.Mathlib.Omega.{arith}
 use lib.ListN.{length}
 use Rattle.slices.specs.Laws.LittleEndian.{Bytes}
 use Rattle.slices.specs.Zeros.{padTo}
-use Rattle.payload.specs.Answers.{fieldsOf, readFields, readNumber}
+use Rattle.payload.specs.Answers.{readFields, readNumber, writtenFields}
 use Rattle.payload.specs.Demand3.{GivesBack, HouseProgram, PartsOf}
 use Rattle.payload.specs.House.{house, isOk}
 use Rattle.payload.specs.Laws.Demand3.{demand-3, demand-3-back, is-writing, small-capacities}
-use Rattle.payload.specs.Laws.House.{IsWriting, check-passed, is-ok, read-strings, reading-ok}
+use Rattle.payload.specs.Laws.House.{IsWriting, check-passed, read-strings, reading-ok}
 use Rattle.payload.specs.Laws.Kept.{TextsIn}
 use Rattle.payload.specs.Laws.Pool.{false≢true}
 use Rattle.payload.specs.Laws.ReadSound.{read-is, rows-counted, spans-counted}
@@ -21,14 +21,15 @@ use Rattle.payload.specs.Laws.Refusals.{house-refusal}
 use Rattle.payload.specs.Laws.Rules.{Small}
 use Rattle.payload.specs.Laws.Tables.{length-partsWords}
 use Rattle.payload.specs.Names.{isListed}
-use Rattle.payload.specs.Reader.{Part, Result, State, ok, refused}
+use Rattle.payload.specs.Reader.{Part, Result, ok, refused}
 use Rattle.payload.specs.Reading.{Payload}
 use Rattle.payload.specs.Rows.{rowTable, rowWidth, spanTable}
 use Rattle.payload.specs.declared.Capacities.{Capacities}
 use Rattle.payload.specs.declared.Read.{Read}
 use Rattle.payload.specs.Sound.{Tables}
-use Rattle.payload.specs.Tables.{Leaves, capacitiesOf, partsWords, readAnswer, reading, spanWords, tablesOf, usedPool, usedRows, usedSpans, usedStarts}
+use Rattle.payload.specs.Tables.{Leaves, capacitiesOf, fieldsOf, partsWords, readAnswer, reading, spanWords, tablesOf, usedPool, usedRows, usedSpans, usedStarts}
 use Rattle.payload.specs.Trees.{forgetScript, single}
+use Rattle.payload.specs.Write.{Writing, notWritten, writeAnswer, writingFields, written}
 use Rattle.payload.specs.Writing.{poolOf}
 
 ---- the number of the check's answer
@@ -52,17 +53,22 @@ house-number c small names p bytes =
 
 ---- the fields of an answer
 
+-- what a read says is used is what stands in the tables
 module _ (c : Capacities) (names p : List ℕ) (bytes : Bytes p) where
-  -- what an accepted read says is used is what stands in the tables
-  fields-are : (x : Result Payload) → ((u : Payload) (s : State) → x ≡ ok u s → reading c names p ≡ ok u s) → readFields (readAnswer x) ≡ fieldsOf x
+  pub fields-are : (x : Result Payload) → reading c names p ≡ x → readFields (readAnswer x) ≡ fieldsOf x
   unfolding readAnswer fieldsOf usedRows usedSpans usedStarts usedPool
-  fields-are (refused n q) h = refl
-  fields-are (ok u s) h =
-      let k = read-is c p (isListed names) bytes u s (reading-ok c names p u s (h u s refl) .1) in
+  fields-are (refused n q) e = refl
+  fields-are (ok u s) e =
+      let k = read-is c p (isListed names) bytes u s (reading-ok c names p u s e .1) in
       let rows : s .rows ≡ length (rowTable (single (u .script .outer))) / rowWidth = omega (arith, rows-counted k) in
       let spans : s .spans ≡ length (spanWords (spanTable (single (u .script .outer)))) / 2 = omega (arith, spans-counted k) in
       let strings : length (u .pool) ≡ length (partsWords (u .pool)) / 2 = omega (arith, length-partsWords (u .pool)) in
       rw (rows, spans, strings)
+
+pub written-fields : (x : Writing) → writtenFields (writeAnswer x) ≡ writingFields x
+unfolding writeAnswer writingFields
+written-fields (written out pool) = refl
+written-fields (notWritten n p) = refl
 
 ---- what the read of a house-written payload leaves
 
@@ -74,14 +80,6 @@ texts-parts p (x ∷ xs) h = (h .0 .text-stands .in-store, h .0 .text-stands .it
 module _ (names p : List ℕ) (bytes : Bytes p) (rows spans starts pool : List ℕ) where
   abbrev caps : Capacities
   caps = capacitiesOf (length rows) (length spans) (length starts) (length pool)
-
-  -- the fields of the read's answer, and of the check's, are document 01's number and values
-  pub read-fields : {rows′ spans′ starts′ pool′ : List ℕ} {r : Read} → Leaves (reading caps names p) rows spans starts pool rows′ spans′ starts′ pool′ r → readFields r ≡ fieldsOf (reading caps names p)
-  read-fields h = rw (h .answer) (fields-are caps names p bytes (reading caps names p) (λ u s e. e))
-
-  pub check-fields : {rows′ spans′ starts′ pool′ : List ℕ} {r : Read} → Leaves (house caps names p) rows spans starts pool rows′ spans′ starts′ pool′ r → readFields r ≡ fieldsOf (house caps names p)
-  unfolding house
-  check-fields h = rw (h .answer) (fields-are caps names p bytes (house caps names p) (λ u s e. sym (check-passed p (reading caps names p) (is-ok _ u s e)) ∙ e))
 
   -- the check's contract
   pub check-passes : {rows′ spans′ starts′ pool′ : List ℕ} {r : Read} → Leaves (house caps names p) rows spans starts pool rows′ spans′ starts′ pool′ r

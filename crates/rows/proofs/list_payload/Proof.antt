@@ -1,15 +1,14 @@
 -- `list_payload` meets its contract: its text is the listing of what the read leaves.
 use Prim.Native.Nat.{ℕ, _*_, _≤_}
 use mathlib.Core.Path.{_≡_, sym, ap, _∙_}
-use mathlib.Core.List.{List, []}
+use mathlib.Core.List.{List}
 use native.Mathlib.Omega.{arith}
-use lib.ListN.{length}
+use lib.ListN.{length, length-replicate}
 use lib.Seq.{length-take-le}
 use borrow.Author.Needs.{needs}
 use Rattle.io.specs.Counts.{Counts}
 use Rattle.slices.specs.Put.{put}
 use Rattle.payload.specs.Rows.{rowWidth}
-use Rattle.payload.specs.Tables.{capacitiesOf}
 use Rattle.rows.specs.Listed.{tableReading}
 use Rattle.rows.specs.Laws.Listed.{listed-long, listed-read, listed-rows}
 use Rattle.listing.specs.Listing.{listedRows}
@@ -32,15 +31,15 @@ returns c =
     whole (args .out .now) (listed-long _ _ (c .before .before .before .if1 .taken)) (c .put-listing .ensures)
 
 put-listing-requires-2 : tie.Need-put-listing-requires-2
-unfolding capacitiesOf
 put-listing-requires-2 c κs =
-    let at-deserialize-payload = c .before .before .before .before .before .before in
-    let d = at-deserialize-payload .deserialize-payload in
-    let known = at-deserialize-payload .before .before .before .before .before .before .before in
-    let bytes = known .before .args .bytes .now in
-    let few = listed-rows (capacitiesOf (rowWidth * 512) (2 * 1024) 512 (2 * 256)) [] bytes (λ j. omega (arith, known .shared-slice-known .given j)) in
-    let h : listedRows (d .result) ≤ 512 = rw (d .ensures .answer) few in
-    omega (arith, d .kept .1 .1 .0, c .put-listing-arg2 .given .0 .1)
+    let d = c .before .before .before .before .before .before .deserialize-payload in
+    omega (
+      arith,
+      listed-rows (d .ensures) (d .kept .1 .1 .0),
+      d .kept .1 .1 .0,
+      length-replicate {A = ℕ} (rowWidth * 512) 0,
+      c .put-listing-arg2 .given .0 .1,
+    )
 
 returns-2 : tie.Need-returns-2
 unfolding tableReading
