@@ -4,8 +4,8 @@ use Prim.Native.Nat.{ℕ, _^_}
 use lib.IntN.{ℤ, pos, _+ℤ_}
 use lib.Signed.{mag}
 use lib.Dec.{ltb}
-use Rattle.varint.specs.declared.Position.{Position}
-use Rattle.varint.specs.declared.Position.the-variants.{At, OutOfRange}
+use Rattle.signed.specs.declared.Position.{Position}
+use Rattle.signed.specs.declared.Position.the-variants.{At, OutOfRange}
 
 -- in 64 signed bits: `mag z` is n both for n and for -(n + 1)
 abbrev pub inRange : ℤ → Bool

@@ -1,14 +1,14 @@
--- `varint::cut_signed` meets its contract: `modulus` is 2 ^ bits, and the two cases are those of the definition. Assumes nothing.
+-- `signed::cut_signed` meets its contract: `modulus` is 2 ^ bits, and the two cases are those of the definition. Assumes nothing.
 use mathlib.Core.Path.{_≡_, sym, _∙_, subst}
 use Prim.Native.Nat.{ℕ, _+_, _-_, _*_, _/_, _%_, _^_, _≤_, _<_}
 use native.Mathlib.Omega.{arith}
 use native.Mathlib.Nat.{mod-lt, one-mul}
 use borrow.Author.Needs.{needs}
 use lib.Pow.{pow-pos, pow-mono, shl-exact}
-use Rattle.varint.specs.Signed.{wordOf, signedOf}
-use Rattle.varint.specs.Laws.Signed.{pow-half, cut-low, cut-high}
-use Rattle.varint.proofs.cut_signed.Statement.{statement}
-use Rattle.varint.proofs.cut_signed.Tie as tie
+use Rattle.signed.specs.Signed.{wordOf, signedOf}
+use Rattle.signed.specs.Laws.Signed.{pow-half, cut-low, cut-high}
+use Rattle.signed.proofs.cut_signed.Statement.{statement}
+use Rattle.signed.proofs.cut_signed.Tie as tie
 
 -- over any modulus m that is 2 ^ k
 module _ (u k : ℕ) (one : 1 ≤ k) (most : k < 64) {m : ℕ} (e : 2 ^ k ≡ m) where

@@ -1,4 +1,4 @@
--- `varint::add_delta` meets its contract: two numbers of 63 bits have a sum; any others by the two signs, as the code goes. Assumes nothing.
+-- `signed::add_delta` meets its contract: two numbers of 63 bits have a sum; any others by the two signs, as the code goes. Assumes nothing.
 use mathlib.Core.Path.{_≡_, sym, ap, ap₂, _∙_, subst}
 use mathlib.Core.Bool.{Bool, true, false, and-eq-true-iff}
 use Prim.Native.Nat.{ℕ, suc, _+_, _-_, _^_, _≤_, _<_}
@@ -9,12 +9,12 @@ use lib.Signed.{mag, ltZ}
 use mir.Syntax.{w64}
 use mir.Val.{Fits, SFits, toZ, ofZ}
 use mir.Facts.{toZ-ofZ}
-use Rattle.varint.specs.declared.Position.the-variants.{At, OutOfRange}
-use Rattle.varint.specs.Position.{fits63Bits, positionOf}
-use Rattle.varint.proofs.Signs.{tested, not-value, own-value, casts}
-use Rattle.varint.proofs.Sums.{two-of-63-bits, both-negative, both-natural, negative-natural, natural-negative, sum-fits, goes-to, goes-out}
-use Rattle.varint.proofs.add_delta.Statement.{statement}
-use Rattle.varint.proofs.add_delta.Tie as tie
+use Rattle.signed.specs.declared.Position.the-variants.{At, OutOfRange}
+use Rattle.signed.specs.Position.{fits63Bits, positionOf}
+use Rattle.signed.proofs.Signs.{tested, not-value, own-value, casts}
+use Rattle.signed.proofs.Sums.{two-of-63-bits, both-negative, both-natural, negative-natural, natural-negative, sum-fits, goes-to, goes-out}
+use Rattle.signed.proofs.add_delta.Statement.{statement}
+use Rattle.signed.proofs.add_delta.Tie as tie
 
 -- the two magnitudes, as the code has them
 module _ {x y : ℤ} (a b : ℕ) (ex : x ≡ pos a) (ey : y ≡ pos b) where

@@ -1,17 +1,15 @@
 -- Zigzag is exact both ways, and so is a 64-bit signed number modulo 2 ^ 64. Assumes nothing.
-use mathlib.Core.Path.{_≡_, refl, ap, _∙_}
-use mathlib.Core.Bool.{Bool, true, false}
+use mathlib.Core.Path.{_≡_, ap, _∙_}
 use mathlib.Core.Logic.{_⊎_, inl, inr, ⊎-elim}
 use Prim.Native.Nat.{ℕ, suc, _+_, _-_, _*_, _/_, _%_, _^_, _≤_, _<_}
 use native.Mathlib.Omega.{arith}
-use native.Mathlib.Nat.{mod-lt, pow-suc}
+use native.Mathlib.Nat.{mod-lt, pow-suc, eq-zero-or-pos}
 use lib.IntN.{ℤ, pos, negsuc}
-use lib.Dec.{eqb, lit≤}
+use lib.Dec.{lit≤}
 use lib.Pow.{pow-pos, pow-mono}
 use lib.Signed.{mag}
-use borrow.Author.Tests.{lt-ltb, le-ltb, eq-eqb, ne-eqb, eqb-true, eqb-false}
-use Rattle.varint.specs.Signed.{zigzagOf, unzigzagOf, wordOf, signedOf}
-use Rattle.varint.specs.Laws.Uleb128.{below-or}
+use borrow.Author.Tests.{lt-ltb, le-ltb, eq-eqb, ne-eqb}
+use Rattle.signed.specs.Signed.{zigzagOf, unzigzagOf, wordOf, signedOf}
 
 -- ---- zigzag
 
@@ -22,11 +20,7 @@ pub unzigzag-odd : (u : ℕ) → u % 2 ≡ 1 → unzigzagOf u ≡ negsuc (u / 2)
 unzigzag-odd u e = simp (ne-eqb (u % 2) 0 (omega arith))
 
 pub even-or-odd : (u : ℕ) → (u % 2 ≡ 0) ⊎ (u % 2 ≡ 1)
-even-or-odd u = go (eqb (u % 2) 0) refl
-  where
-    go : (t : Bool) → eqb (u % 2) 0 ≡ t → (u % 2 ≡ 0) ⊎ (u % 2 ≡ 1)
-    go true e = inl (eqb-true (u % 2) 0 e)
-    go false e = let h = eqb-false (u % 2) 0 e in inr (omega arith)
+even-or-odd u = ⊎-elim inl (λ h. inr (omega arith)) (eq-zero-or-pos (u % 2))
 
 pub unzigzag-zigzag : (z : ℤ) → unzigzagOf (zigzagOf z) ≡ z
 unzigzag-zigzag (pos n) = unzigzag-even (2 * n) (omega arith) ∙ ap pos (omega arith)
@@ -49,6 +43,10 @@ unzigzag-range u h =
     ⊎-elim (λ (e : u % 2 ≡ 0). rw (unzigzag-even u e) (omega arith)) (λ (e : u % 2 ≡ 1). rw (unzigzag-odd u e) (omega arith)) (even-or-odd u)
 
 -- ---- modulo 2 ^ 64
+
+-- the highest of the k low bits is clear, or set
+halves : (k u : ℕ) → (u % 2 ^ k < 2 ^ (k - 1)) ⊎ (2 ^ (k - 1) ≤ u % 2 ^ k)
+halves k u = ⊎-elim (λ e. inr (omega arith)) (λ h. inl (omega arith)) (eq-zero-or-pos (2 ^ (k - 1) - u % 2 ^ k))
 
 pub signed-low : (k u : ℕ) → u % 2 ^ k < 2 ^ (k - 1) → signedOf k u ≡ pos (u % 2 ^ k)
 signed-low k u h = simp (lt-ltb (u % 2 ^ k) (2 ^ (k - 1)) h)
@@ -74,7 +72,7 @@ signed-range k u h =
     ⊎-elim
     (λ (l : u % 2 ^ k < 2 ^ (k - 1)). rw (signed-low k u l) l)
     (λ (l : 2 ^ (k - 1) ≤ u % 2 ^ k). rw (signed-high k u l) (omega (arith, pow-half k h, pow-pos (k - 1))))
-    (below-or (u % 2 ^ k) (2 ^ (k - 1)))
+    (halves k u)
 
 pub word-range : (z : ℤ) → wordOf z < 2 ^ 64
 word-range (pos n) = omega arith
@@ -97,7 +95,7 @@ word-signed u h =
     ⊎-elim
     (λ (l : u % 2 ^ 64 < 2 ^ 63). cut-low 64 u (lit≤ tt) l ∙ omega arith)
     (λ (l : 2 ^ 63 ≤ u % 2 ^ 64). cut-high 64 u (lit≤ tt) l ∙ omega arith)
-    (below-or (u % 2 ^ 64) (2 ^ 63))
+    (halves 64 u)
 
 -- ---- a row's word, written by zigzag and read back
 

@@ -1,4 +1,4 @@
--- `varint::zigzag` meets its contract: `v ^ sign` is how far v is above 0 or below -1, and `0 - sign` is 1 where v is negative. Assumes nothing.
+-- `signed::zigzag` meets its contract: `v ^ sign` is how far v is above 0 or below -1, and `0 - sign` is 1 where v is negative. Assumes nothing.
 use mathlib.Core.Path.{_≡_, sym, ap₂, _∙_, subst, subst₂}
 use Prim.Native.Nat.{_+_, _*_, _<_}
 use native.Mathlib.Omega.{arith}
@@ -7,10 +7,10 @@ use lib.IntN.{ℤ, pos, negsuc, natAbs}
 use lib.Signed.{mag, nonNeg}
 use mir.Syntax.{w64}
 use mir.Val.{Fits, SFits}
-use Rattle.varint.specs.Signed.{zigzagOf}
-use Rattle.varint.proofs.Signs.{below, fold-is, minus-is, bit-is}
-use Rattle.varint.proofs.zigzag.Statement.{statement}
-use Rattle.varint.proofs.zigzag.Tie as tie
+use Rattle.signed.specs.Signed.{zigzagOf}
+use Rattle.signed.proofs.Signs.{below, fold-is, minus-is, bit-is}
+use Rattle.signed.proofs.zigzag.Statement.{statement}
+use Rattle.signed.proofs.zigzag.Tie as tie
 
 below-two : (v : ℤ) → below v < 2
 below-two (pos n) = omega arith

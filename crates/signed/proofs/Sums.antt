@@ -10,9 +10,9 @@ use lib.Signed.{mag, ltZ}
 use mir.Syntax.{w64}
 use mir.Val.{SFits, toZ, ofZ}
 use mir.Facts.{toZ-ofZ}
-use Rattle.varint.specs.declared.Position.the-variants.{At, OutOfRange}
-use Rattle.varint.specs.Position.{fits63Bits, positionOf}
-use Rattle.varint.proofs.Signs.{no-less, true-false}
+use Rattle.signed.specs.declared.Position.the-variants.{At, OutOfRange}
+use Rattle.signed.specs.Position.{fits63Bits, positionOf}
+use Rattle.signed.proofs.Signs.{no-less, true-false}
 
 pub both-negative : (p d : ℤ) → ltZ p (pos 0) ≡ true → ltZ d (pos 0) ≡ true → mag (p +ℤ d) ≡ suc (mag p + mag d)
 both-negative (pos n) d e f = no-less n e

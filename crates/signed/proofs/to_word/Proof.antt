@@ -1,14 +1,14 @@
--- `varint::to_word` meets its contract. Assumes nothing.
+-- `signed::to_word` meets its contract. Assumes nothing.
 use mathlib.Core.Path.{_≡_, ap, _∙_}
 use mathlib.Core.Bool.{true, false}
 use Prim.Native.Nat.{_-_, _^_, _<_}
 use native.Mathlib.Omega.{arith}
 use lib.IntN.{ℤ, pos, negsuc, natAbs}
 use lib.Signed.{mag, ltZ}
-use Rattle.varint.specs.Signed.{wordOf}
-use Rattle.varint.proofs.Signs.{tested, no-less, true-false, not-value, own-value, casts}
-use Rattle.varint.proofs.to_word.Statement.{statement}
-use Rattle.varint.proofs.to_word.Tie as tie
+use Rattle.signed.specs.Signed.{wordOf}
+use Rattle.signed.proofs.Signs.{tested, no-less, true-false, not-value, own-value, casts}
+use Rattle.signed.proofs.to_word.Statement.{statement}
+use Rattle.signed.proofs.to_word.Tie as tie
 
 negative : (v : ℤ) → mag v < 2 ^ 63 → ltZ v (pos 0) ≡ true → 2 ^ 64 - 1 - mag v ≡ wordOf v
 negative (pos n) h e = no-less n e

@@ -1,10 +1,10 @@
--- `varint::unzigzag` meets its contract. Assumes nothing.
+-- `signed::unzigzag` meets its contract. Assumes nothing.
 use borrow.Author.Needs.{needs}
 use native.Mathlib.Omega.{arith}
 use Prim.Native.Nat.{_%_, _/_}
-use Rattle.varint.proofs.Signs.{minus-bit, unfold-is}
-use Rattle.varint.proofs.unzigzag.Statement.{statement}
-use Rattle.varint.proofs.unzigzag.Tie as tie
+use Rattle.signed.proofs.Signs.{minus-bit, unfold-is}
+use Rattle.signed.proofs.unzigzag.Statement.{statement}
+use Rattle.signed.proofs.unzigzag.Tie as tie
 
 sub-sign : tie.Need-sub-sign
 sub-sign c = minus-bit (c .args .u % 2) (omega arith)

@@ -1,4 +1,4 @@
--- `varint::from_word` meets its contract. Assumes nothing.
+-- `signed::from_word` meets its contract. Assumes nothing.
 use borrow.Author.Needs.{needs}
 use mathlib.Core.Path.{_≡_, sym, ap, _∙_}
 use Prim.Native.Nat.{ℕ, suc, _-_, _%_, _^_}
@@ -7,9 +7,9 @@ use lib.IntN.{pos, negsuc}
 use mir.Syntax.{w64}
 use mir.Val.{toZ}
 use mir.Facts.{toZ-pos, toZ-neg}
-use Rattle.varint.specs.Laws.Signed.{signed-low, signed-high}
-use Rattle.varint.proofs.from_word.Statement.{statement}
-use Rattle.varint.proofs.from_word.Tie as tie
+use Rattle.signed.specs.Laws.Signed.{signed-low, signed-high}
+use Rattle.signed.proofs.from_word.Statement.{statement}
+use Rattle.signed.proofs.from_word.Tie as tie
 
 returns : tie.Need-returns
 returns c =

@@ -1,4 +1,4 @@
--- `varint::fits_63_bits` meets its contract: each test decides for one sign. Assumes nothing.
+-- `signed::fits_63_bits` meets its contract: each test decides for one sign. Assumes nothing.
 use mathlib.Core.Path.{_≡_, refl, sym, ap, _∙_}
 use mathlib.Core.Bool.{Bool, true, false, _&&_, and-true}
 use Prim.Native.Nat.{_-_, _^_}
@@ -8,9 +8,9 @@ use lib.Dec.{ltb, leb}
 use lib.IntN.{ℤ, pos, negsuc}
 use lib.Signed.{ltZ, leZ}
 use mir.Facts.{toZ-ofZ}
-use Rattle.varint.specs.Position.{fits63Bits}
-use Rattle.varint.proofs.fits_63_bits.Statement.{statement}
-use Rattle.varint.proofs.fits_63_bits.Tie as tie
+use Rattle.signed.specs.Position.{fits63Bits}
+use Rattle.signed.proofs.fits_63_bits.Statement.{statement}
+use Rattle.signed.proofs.fits_63_bits.Tie as tie
 
 -- the code's two tests
 abbrev tests : ℤ → Bool
