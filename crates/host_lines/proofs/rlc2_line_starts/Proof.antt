@@ -1,8 +1,8 @@
 -- `rlc2_line_starts` meets its contract: starts and answer are those of `LineIndex::new`.
 use mathlib.Core.Path.{refl, sym, _∙_}
 use borrow.Author.Needs.{needs}
-use Rattle.host_tables.proofs.rlc2_line_starts.Statement.{statement}
-use Rattle.host_tables.proofs.rlc2_line_starts.Tie as tie
+use Rattle.host_lines.proofs.rlc2_line_starts.Statement.{statement}
+use Rattle.host_lines.proofs.rlc2_line_starts.Tie as tie
 
 returns : tie.Need-returns
 returns c =

@@ -1,8 +1,8 @@
 -- `rlc2_line_col` meets its contract: the answer is that of `line_col`.
 use mathlib.Core.Path.{refl, sym, _∙_}
 use borrow.Author.Needs.{needs}
-use Rattle.host_tables.proofs.rlc2_line_col.Statement.{statement}
-use Rattle.host_tables.proofs.rlc2_line_col.Tie as tie
+use Rattle.host_lines.proofs.rlc2_line_col.Statement.{statement}
+use Rattle.host_lines.proofs.rlc2_line_col.Tie as tie
 
 returns : tie.Need-returns
 returns c =
