@@ -3,5 +3,5 @@
 mod staticlib;
 
 fn main() {
-    staticlib::link(&["host", "host_tables"]);
+    staticlib::link(&["host", "host_tables", "host_lines"]);
 }

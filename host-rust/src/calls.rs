@@ -89,7 +89,12 @@ foreign_calls! {
             rows: &[u64], spans: &[u64], starts: &[u32], pool: &mut [u64],
             out: &mut [u8], answer: &mut [u64],
         ) -> u64;
+    }
+}
 
+// Of libhost_lines.a.
+foreign_calls! {
+    unsafe extern "C" {
         /// Finds where the lines of a text start; the fields are the number, and the count or place.
         pub safe fn rlc2_line_starts(text: &[u8], starts: &mut [u32], answer: &mut [u64]) -> u64;
 

@@ -1,6 +1,6 @@
 //! Safe calls of the RLC2 payload library: read, write and check a surtitle player's acts.
 //!
-//! The work is done by two static libraries that are written in Rattle and proved: every call, on every input, gives
+//! The work is done by three static libraries that are written in Rattle and proved: every call, on every input, gives
 //! an accepted result or a numbered [`Refusal`] with its place. No call panics, and none needs memory of its own.
 //!
 //! | to | with tables that the caller lends | with tables that grow |

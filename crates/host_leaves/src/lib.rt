@@ -6,7 +6,7 @@ ghost use Rattle.slices.specs.Put.{put};
 ghost use Rattle.answer.specs.PutIfRoom.{putIfRoom};
 ghost use Rattle.varint.specs.Uleb128.{uleb128};
 ghost use Rattle.varint.specs.Varint.{varintOf, numberOf};
-ghost use Rattle.varint.specs.Signed.{zigzagOf, unzigzagOf};
+ghost use Rattle.signed.specs.Signed.{zigzagOf, unzigzagOf};
 ghost use Rattle.host_leaves.specs.HostLeaves.{fields, placeAfter, numbersOf, bytesOf};
 use varint::Varint;
 
@@ -64,14 +64,14 @@ pub extern "C" fn rlc2_uvarint_width(n: u64) -> usize
 pub extern "C" fn rlc2_zigzag(v: i64) -> u64
     ensures { λ r. ⌜ r ≡ zigzagOf v ⌝ }
 {
-    varint::zigzag(v)
+    signed::zigzag(v)
 }
 
 #[no_mangle]
 pub extern "C" fn rlc2_unzigzag(u: u64) -> i64
     ensures { λ r. ⌜ r ≡ unzigzagOf u ⌝ }
 {
-    varint::unzigzag(u)
+    signed::unzigzag(u)
 }
 
 // Reads varints one after the other into `numbers`, until the bytes end, a read is refused, or `numbers` is full. Gives how many.

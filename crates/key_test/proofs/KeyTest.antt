@@ -12,7 +12,7 @@ use Rattle.payload.specs.Choice.{if_then_else_}
 use Rattle.payload.specs.Laws.Pool.{false≢true}
 use Rattle.payload.specs.Rows.{kindWidth, kindsWidth, rowWidth}
 use Rattle.payload.specs.Shapes.{Shape, noValue, oneValue, values, keys, pairs, withKids, withChunk, withFields, withTemplate, shape, shapes}
-use Rattle.read_heads.specs.Heads.{countIn, rowsUnder}
+use Rattle.row_layout.specs.Under.{countIn, rowsUnder}
 use Rattle.key_test.specs.Keys.{tagOf, mostRows, rowsTold, sameKey, sameString, seenIn, stands}
 use Rattle.key_test.proofs.Tags.{noKids, oneKid, firstCounts}
 

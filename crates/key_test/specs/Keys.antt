@@ -8,7 +8,7 @@ use Rattle.slices.specs.Same.{same}
 use Rattle.payload.specs.Rows.{rowWidth}
 use Rattle.payload.specs.Shapes.{isKeyTag, shape}
 use Rattle.payload.specs.Tables.{limits}
-use Rattle.read_heads.specs.Heads.{countIn, rowsUnder}
+use Rattle.row_layout.specs.Under.{countIn, rowsUnder}
 
 -- a row's words stand at the front of the list
 abbrev pub tagOf : List ℕ → ℕ

@@ -6,7 +6,7 @@ use Rattle.payload.specs.Reader.{Part}
 use Rattle.payload.specs.Rows.{rootCount, rowWords}
 use Rattle.payload.specs.Shapes.{shape}
 use Rattle.payload.specs.Trees.{Item, Trees, nil, node}
-use Rattle.read_heads.specs.Heads.{countIn, rowsUnder}
+use Rattle.row_layout.specs.Under.{countIn, rowsUnder}
 
 -- a row of this tag and these items, with n rows right under it
 pub record RowTold (t : ℕ) (items : List (Item Part)) (n : ℕ) : Type 0 where

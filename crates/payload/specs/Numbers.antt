@@ -4,7 +4,7 @@ use mathlib.Core.List.{List, [], _∷_}
 use Prim.Native.Nat.{_%_, _^_, ℕ}
 use lib.Dec.{eqb, leb, ltb}
 use Rattle.slices.specs.LittleEndian.{fromLeBytes, toLeBytes}
-use Rattle.varint.specs.Signed.{signedOf, unzigzagOf, wordOf, zigzagOf}
+use Rattle.signed.specs.Signed.{signedOf, unzigzagOf, wordOf, zigzagOf}
 use Rattle.varint.specs.Uleb128.{uleb128}
 use Rattle.varint.specs.Varint.{varintOf}
 use Rattle.varint.specs.declared.Varint.{Varint}

@@ -7,7 +7,7 @@ use lib.Dec.{eqb, leb, ltb}
 use lib.IntN.{pos, ℤ}
 use lib.ListN.{getD, length}
 use Rattle.utf8.specs.Utf8.{isUtf8}
-use Rattle.varint.specs.Signed.{wordOf}
+use Rattle.signed.specs.Signed.{wordOf}
 use Rattle.payload.specs.Numbers.{cutTo, readNumber, varint}
 use Rattle.payload.specs.Pool.{isIn}
 use Rattle.payload.specs.Reader.{Part, Reader, _>>=_, _>>_, body, byte, here, must, newRow, pure}

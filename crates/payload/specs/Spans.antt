@@ -5,8 +5,8 @@ use Prim.Native.Nat.{_+_, _^_, suc, zero, ℕ}
 use lib.Dec.{eqb, ltb}
 use lib.IntN.{_+ℤ_, _-ℤ_, pos, ℤ}
 use lib.ListN.{length, replicate}
-use Rattle.varint.specs.Position.{inRange}
-use Rattle.varint.specs.Signed.{unzigzagOf, wordOf, zigzagOf}
+use Rattle.signed.specs.Position.{inRange}
+use Rattle.signed.specs.Signed.{unzigzagOf, wordOf, zigzagOf}
 use Rattle.varint.specs.Uleb128.{uleb128}
 use Rattle.payload.specs.Choice.{_and_, if_then_else_}
 use Rattle.payload.specs.Numbers.{varint}

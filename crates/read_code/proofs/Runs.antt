@@ -8,7 +8,7 @@ use lib.ListN.{length, replicate}
 use borrow.Author.Tests.{ne-eqb}
 use Rattle.slices.specs.Put.{put}
 use Rattle.slices.specs.Laws.Put.{put-none}
-use Rattle.varint.specs.Signed.{wordOf}
+use Rattle.signed.specs.Signed.{wordOf}
 use Rattle.payload.specs.Numbers.{varint}
 use Rattle.payload.specs.Reader.{Part, Reader, _>>=_}
 use Rattle.payload.specs.Spans.{Run, expand, total, readPosition, readRuns}

@@ -6,7 +6,7 @@ use lib.Dec.{eqb}
 use lib.IntN.{ℤ, pos}
 use lib.ListN.{length, getD}
 use Rattle.slices.specs.Put.{put}
-use Rattle.varint.specs.Signed.{wordOf}
+use Rattle.signed.specs.Signed.{wordOf}
 use Rattle.payload.specs.Reader.{Reader, Part, _>>=_, _>>_, here, must, pure}
 use Rattle.payload.specs.Spans.{Span, Run, Code, expand, total, readRuns}
 use Rattle.payload.specs.Tables.{spanWords}

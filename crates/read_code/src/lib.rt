@@ -13,7 +13,7 @@ use read_items::Number;
 use read_items::PositionAt;
 use read_items::items;
 use read_items::positions;
-use varint::Position;
+use signed::Position;
 
 // Code: its offset, its length and the place after its runs; or a refusal's number and place.
 pub enum CodeAt {
@@ -73,8 +73,8 @@ fn read_short_run(bytes: &[u8], start: i64, end: i64, at: usize) -> RunAt
     requires { ⌜ ShortRun (now bytes) at ⌝ }
     ensures { λ r. ⌜ RunRead (now (bytes .entry)) start end at r ⌝ }
 {
-    match varint::add_delta(start, varint::unzigzag(bytes[at] as u64)) {
-        Position::At(s) => match varint::add_delta(end, varint::unzigzag(bytes[at + 1] as u64)) {
+    match signed::add_delta(start, signed::unzigzag(bytes[at] as u64)) {
+        Position::At(s) => match signed::add_delta(end, signed::unzigzag(bytes[at + 1] as u64)) {
             Position::At(e) => RunAt::Run(s, e, bytes[at + 2] as u64, at + 3),
             Position::OutOfRange => RunAt::Refused(8, at + 1),
         },
@@ -202,8 +202,8 @@ fn read_runs(
                     spans,
                     from,
                     n as usize,
-                    varint::to_word(s),
-                    varint::to_word(e),
+                    signed::to_word(s),
+                    signed::to_word(e),
                 );
                 from += n as usize;
             }

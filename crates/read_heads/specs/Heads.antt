@@ -1,15 +1,16 @@
 -- The head of a row: its items, and the count of what follows them; and the row's words after the tag.
 use mathlib.Core.List.{List, [], _∷_, _++_}
 use mathlib.Core.Path.{_≡_}
-use Prim.Native.Nat.{ℕ, suc, _*_}
-use lib.ListN.{getD, replicate}
+use Prim.Native.Nat.{ℕ}
+use lib.ListN.{replicate}
 use Rattle.payload.specs.Numbers.{varint}
 use Rattle.payload.specs.Reader.{Part, Reader, _>>=_, pure}
 use Rattle.payload.specs.Reading.{Context, readItems}
 use Rattle.payload.specs.declared.Capacities.{Capacities}
-use Rattle.payload.specs.Rows.{itemsWords, itemsSpans, countWords, kindsWidth, unusedWords}
+use Rattle.payload.specs.Rows.{itemsWords, itemsSpans, countWords, unusedWords}
 use Rattle.payload.specs.Shapes.{Kids, Shape, noValue, oneValue, values, keys, pairs, withKids, withChunk, withFields, withTemplate, kindsOf}
 use Rattle.payload.specs.Trees.{Item}
+use Rattle.row_layout.specs.Under.{countIn, rowsUnder}
 use Rattle.read_items.specs.Reads.{Reads, read, stopped}
 use Rattle.read_items.specs.Context.{contextOf}
 use Rattle.read_items.specs.declared.Number.{Number}
@@ -47,28 +48,6 @@ unfoldable pub readHead : Context → Shape → Reader Heading
 readHead e sh = readItems e (kindsOf sh) >>= λ is. readCount sh >>= λ n. pure (heading is n)
 
 ---- the row's words
-
--- how many rows stand right under a row with this count
-unfoldable pub rowsUnder : Shape → ℕ → ℕ
-rowsUnder (withKids kinds noValue) n = n
-rowsUnder (withKids kinds oneValue) n = n
-rowsUnder (withKids kinds values) n = n
-rowsUnder (withKids kinds keys) n = n
-rowsUnder (withKids kinds pairs) n = 2 * n
-rowsUnder (withChunk kinds) n = n
-rowsUnder (withFields kinds) n = n
-rowsUnder (withTemplate kinds) n = suc n
-
--- the count that a row's words after the tag tell
-unfoldable pub countIn : Shape → List ℕ → ℕ
-countIn (withKids kinds noValue) ws = 0
-countIn (withKids kinds oneValue) ws = 1
-countIn (withKids kinds values) ws = getD ws (kindsWidth kinds) 0
-countIn (withKids kinds keys) ws = getD ws (kindsWidth kinds) 0
-countIn (withKids kinds pairs) ws = getD ws (kindsWidth kinds) 0
-countIn (withChunk kinds) ws = 1
-countIn (withFields kinds) ws = getD ws (kindsWidth kinds) 0
-countIn (withTemplate kinds) ws = getD ws (kindsWidth kinds) 0
 
 -- the words after the tag
 unfoldable pub headWords : Shape → List (Item Part) → ℕ → List ℕ

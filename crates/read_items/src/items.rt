@@ -32,7 +32,7 @@ pub fn read_pool_index(bytes: &[u8], pool: &[u64], at: usize) -> PartAt
 {
     match read_uvarint(bytes, at) {
         Number::Read(v, next) => {
-            let i = varint::cut_u32(v) as usize;
+            let i = (v % 0x1_0000_0000) as usize;
             if i < pool.len() / 2 {
                 return PartAt::Part(pool[2 * i], pool[2 * i + 1], next);
             }

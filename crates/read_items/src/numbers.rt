@@ -14,7 +14,7 @@ use cursor::Body;
 fn signed_word(z: u64) -> u64
     ensures { λ r. ⌜ r ≡ unzigzagWord z ⌝ }
 {
-    varint::to_word(varint::unzigzag(z))
+    signed::to_word(signed::unzigzag(z))
 }
 
 // The word of a varint's number.
@@ -23,12 +23,12 @@ fn cut_word(cut: Cut, v: u64) -> u64
 {
     match cut {
         Cut::U64 => v,
-        Cut::U32 => varint::cut_u32(v),
-        Cut::U16 => varint::cut_u16(v),
+        Cut::U32 => v % 0x1_0000_0000,
+        Cut::U16 => v % 0x1_0000,
         Cut::I64 => signed_word(v),
-        Cut::I32 => varint::cut_i32(signed_word(v)),
-        Cut::I16 => varint::cut_i16(signed_word(v)),
-        Cut::I8 => varint::cut_i8(signed_word(v)),
+        Cut::I32 => signed::cut_signed(signed_word(v), 32),
+        Cut::I16 => signed::cut_signed(signed_word(v), 16),
+        Cut::I8 => signed::cut_signed(signed_word(v), 8),
     }
 }
 
@@ -72,7 +72,7 @@ pub fn read_char(bytes: &[u8], at: usize) -> Number
 {
     match items::read_uvarint(bytes, at) {
         Number::Read(v, next) => {
-            let c = varint::cut_u32(v);
+            let c = v % 0x1_0000_0000;
             if is_scalar(c) {
                 return Number::Read(c, next);
             }
@@ -87,7 +87,7 @@ pub fn read_handle_kind(bytes: &[u8], at: usize) -> Number
 {
     match items::read_uvarint(bytes, at) {
         Number::Read(v, next) => {
-            let kind = varint::cut_u8(v);
+            let kind = v % 0x100;
             if kind <= 5 {
                 return Number::Read(kind, next);
             }

@@ -5,14 +5,14 @@ ghost use Rattle.read_items.specs.Positions.{positionAnswer};
 use crate::Number;
 use crate::PositionAt;
 use crate::items;
-use varint::Position;
+use signed::Position;
 
 // The position that the delta at `at` leads to from an old one.
 pub fn read_position(bytes: &[u8], old: i64, at: usize) -> PositionAt
     ensures { λ r. ⌜ Reads (now (bytes .entry)) at (readPosition old) (positionAnswer r) ⌝ }
 {
     match items::read_uvarint(bytes, at) {
-        Number::Read(delta, next) => match varint::add_delta(old, varint::unzigzag(delta)) {
+        Number::Read(delta, next) => match signed::add_delta(old, signed::unzigzag(delta)) {
             Position::At(new) => PositionAt::Position(new, next),
             Position::OutOfRange => PositionAt::Refused(8, at),
         },

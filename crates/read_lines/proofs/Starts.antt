@@ -9,7 +9,7 @@ use lib.ListN.{length, length-append, length-set, set}
 use borrow.Author.Tests.{le-ltb, lt-ltb}
 use Rattle.slices.specs.Put.{put}
 use Rattle.slices.specs.Laws.Put.{put-none, put-snoc}
-use Rattle.varint.specs.Signed.{wordOf}
+use Rattle.signed.specs.Signed.{wordOf}
 use Rattle.payload.specs.Reading.{readStarts}
 use Rattle.payload.specs.Spans.{readPosition}
 use Rattle.read_items.specs.Reads.{Answer, read, stopped, Reads}

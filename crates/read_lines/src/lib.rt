@@ -46,7 +46,7 @@ fn read_starts(bytes: &[u8], starts: &mut [u32], most: usize, count: u64, at: us
         }
         match positions::read_position(bytes, sum, next) {
             PositionAt::Position(moved, after) => {
-                starts[k] = varint::cut_u32(varint::to_word(moved)) as u32;
+                starts[k] = (signed::to_word(moved) % 0x1_0000_0000) as u32;
                 sum = moved;
                 next = after;
                 k += 1;

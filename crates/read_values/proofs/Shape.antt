@@ -18,7 +18,8 @@ use Rattle.payload.specs.Rows.{rootCount}
 use Rattle.payload.specs.Shapes.{ItemKind, Kids, Shape, keys, noValue, oneValue, pairs, shape, shapes, values, withChunk, withFields, withKids, withTemplate, kindsOf}
 use Rattle.payload.specs.Trees.{Item, Node, Trees, cons, nil, nodeOf}
 use Rattle.payload.specs.Choice.{if_then_else_}
-use Rattle.read_heads.specs.Heads.{Heading, countIn, heading, readCount, readHead, readKidsCount, rowsUnder}
+use Rattle.row_layout.specs.Under.{countIn, rowsUnder}
+use Rattle.read_heads.specs.Heads.{Heading, heading, readCount, readHead, readKidsCount}
 use Rattle.read_items.specs.Reads.{stateAt}
 use Rattle.read_values.specs.Entries.{readEntries}
 use Rattle.read_values.specs.Laws.Entries.{keys-are, pairs-are}

@@ -18,7 +18,8 @@ use Rattle.payload.specs.Spans.{Span, readCode}
 use Rattle.payload.specs.Tables.{spanWords}
 use Rattle.payload.specs.Trees.{Item, Node, Trees, code, cons, nodeOf, single}
 use Rattle.read_items.specs.Context.{contextOf, partOf}
-use Rattle.read_heads.specs.Heads.{HeadOut, ReadsHead, RowRead, countIn, headWords, rowsUnder}
+use Rattle.row_layout.specs.Under.{countIn, rowsUnder}
+use Rattle.read_heads.specs.Heads.{HeadOut, ReadsHead, RowRead, headWords}
 use Rattle.read_items.specs.Reads.{Reads, read, stateAt, stopped}
 use Rattle.read_heads.specs.declared.Head.{Head}
 use Rattle.read_heads.specs.declared.Head.the-variants as head

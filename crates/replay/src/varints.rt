@@ -12,7 +12,7 @@ struct Answer {
 // The number that a word is, as a word again where it is signed.
 fn value(n: u64, signed: bool) -> u64 {
     if signed {
-        varint::to_word(varint::unzigzag(n))
+        signed::to_word(signed::unzigzag(n))
     } else {
         n
     }

@@ -1,3 +1,4 @@
 pub mod Digits
 pub mod Layout
+pub mod Under
 pub mod Laws

@@ -10,8 +10,8 @@ use lib.Signed.{mag}
 use mir.Syntax.{Width, w64}
 use mir.Val.{bits, hbits, SFits, toZ, ofZ}
 use mir.Facts.{sfits-widen, toZ-ofZ}
-use Rattle.varint.specs.Signed.{signedOf, wordOf}
-use Rattle.varint.specs.Laws.Signed.{signed-range, signed-word}
+use Rattle.signed.specs.Signed.{signedOf, wordOf}
+use Rattle.signed.specs.Laws.Signed.{signed-range, signed-word}
 
 module _ {w : Width} {z : ℤ} (narrower : T (leb (hbits w) (hbits w64))) (fits : SFits w z) where
   pub widens : SFits w64 (toZ w (ofZ w z))

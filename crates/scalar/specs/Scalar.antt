@@ -5,7 +5,7 @@ use mathlib.Core.Path.{_≡_}
 use Prim.Native.Nat.{ℕ, _%_, _^_}
 use lib.Dec.{eqb, leb}
 use lib.Ieee.{nanBits, ofBits, toBits, binary32, binary64}
-use Rattle.varint.specs.Signed.{signedOf, wordOf}
+use Rattle.signed.specs.Signed.{signedOf, wordOf}
 use Rattle.payload.specs.Numbers.{fitsKind}
 use Rattle.payload.specs.Shapes.{ItemKind}
 use Rattle.scalar.specs.declared.Scalar.{Scalar}

@@ -1,5 +1,3 @@
 pub mod Uleb128
 pub mod Varint
 pub mod RoundTrip
-pub mod Signed
-pub mod ProofTable

@@ -6,7 +6,7 @@ ghost use Prim.Native.Nat.{_+_, _/_, _^_, _≤_, _<_};
 ghost use lib.ListN.{length};
 ghost use lib.IntN.{pos, _-ℤ_};
 ghost use Rattle.varint.specs.Uleb128.{uleb128};
-ghost use Rattle.varint.specs.Signed.{zigzagOf};
+ghost use Rattle.signed.specs.Signed.{zigzagOf};
 ghost use Rattle.payload.specs.Spans.{sameSpan, writeDelta, runsOf, writeRuns};
 ghost use Rattle.payload.specs.Sound.{spansOf};
 ghost use Rattle.emit.specs.Emit.{Ready, Emitted};
@@ -26,7 +26,7 @@ fn zigzag_delta(old: u64, new: u64) -> u64
     requires { ⌜ (old < 2 ^ 63) × (new < 2 ^ 63) ⌝ }
     ensures { λ r. ⌜ r ≡ zigzagOf (pos new -ℤ pos old) ⌝ }
 {
-    varint::zigzag(new as i64 - old as i64)
+    signed::zigzag(new as i64 - old as i64)
 }
 
 pub fn write_delta(

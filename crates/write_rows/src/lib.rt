@@ -55,7 +55,7 @@ fn word_at(rows: &[u64], i: usize, k: u64) -> u64
 fn zigzag_word(w: u64) -> u64
     ensures { λ r. ⌜ r ≡ zigzagWord w ⌝ }
 {
-    varint::zigzag(varint::from_word(w))
+    signed::zigzag(signed::from_word(w))
 }
 
 // Chunk and field rows have no tag byte.

@@ -2,7 +2,7 @@
 use mathlib.Core.Path.{ap, _∙_}
 use borrow.Author.Needs.{needs}
 use mir.Facts.{toZ-ofZ}
-use Rattle.varint.specs.Signed.{zigzagOf}
+use Rattle.signed.specs.Signed.{zigzagOf}
 use Rattle.host_leaves.proofs.rlc2_zigzag.Statement.{statement}
 use Rattle.host_leaves.proofs.rlc2_zigzag.Tie as tie
 

@@ -17,7 +17,7 @@ use Rattle.payload.specs.Reading.{nodeKey}
 use Rattle.payload.specs.Rows.{rootCount, rowTable, rowWidth, rowWords}
 use Rattle.payload.specs.Shapes.{Shape, noValue, oneValue, values, keys, pairs, withKids, withChunk, withFields, withTemplate, shape}
 use Rattle.payload.specs.Trees.{Node, Trees, nil, node, single, size}
-use Rattle.read_heads.specs.Heads.{countIn, rowsUnder}
+use Rattle.row_layout.specs.Under.{countIn, rowsUnder}
 use Rattle.key_test.specs.Told.{Told}
 use Rattle.key_test.specs.Keys.{mostRows, rowsTold, sameKey, sameString, seenIn, stands}
 

@@ -11,7 +11,7 @@ use lib.ListN.{getD, length, length-append, length-replicate, replicate}
 use borrow.Author.Tests.{eq-eqb, eqb-true, lt-ltb, ltb-true}
 use Rattle.slices.specs.Laws.LittleEndian.{Bytes, fromLeBytes-lt, part-bytes}
 use Rattle.utf8.specs.Utf8.{isUtf8}
-use Rattle.varint.specs.Signed.{unzigzagOf}
+use Rattle.signed.specs.Signed.{unzigzagOf}
 use Rattle.payload.specs.Choice.{_and_, if_then_else_}
 use Rattle.payload.specs.Demand3.{allItems, allOf, itemListed}
 use Rattle.payload.specs.Laws.Keeps.{Keeps, Plain, keeps-at, keeps-bind, keeps-body, keeps-byte, keeps-check, keeps-free, keeps-must, keeps-pure, keeps-row, keeps-so, keeps-spans, keeps-then, keeps-value, keeps-varint, plain-so}

@@ -13,9 +13,9 @@ use lib.Signed.{mag}
 use borrow.Author.Tests.{eq-eqb, eqb-true, leb-true, ltb-true}
 use Rattle.slices.specs.Laws.LittleEndian.{fromLeBytes-toLeBytes, length-toLeBytes}
 use Rattle.slices.specs.LittleEndian.{toLeBytes}
-use Rattle.varint.specs.Laws.Signed.{cut-high, cut-low, signed-high, signed-low, word-trip, zigzag-range}
+use Rattle.signed.specs.Laws.Signed.{cut-high, cut-low, signed-high, signed-low, word-trip, zigzag-range}
 use Rattle.varint.specs.Laws.Uleb128.{below-or}
-use Rattle.varint.specs.Signed.{signedOf, wordOf}
+use Rattle.signed.specs.Signed.{signedOf, wordOf}
 use Rattle.varint.specs.Uleb128.{uleb128}
 use Rattle.payload.specs.Choice.{_or_, if_then_else_}
 use Rattle.payload.specs.Laws.Gives.{Gives, gives-as, gives-bind, gives-body, gives-byte, gives-here, gives-is, gives-must, gives-pure, gives-then}

@@ -8,7 +8,7 @@ use lib.ListN.{replicate}
 use Rattle.slices.specs.LittleEndian.{fromLeBytes, toLeBytes}
 use Rattle.slices.specs.Same.{same}
 use Rattle.utf8.specs.Utf8.{charOf, isFour, isOne, isThree, isTwo, passes}
-use Rattle.varint.specs.Signed.{zigzagOf}
+use Rattle.signed.specs.Signed.{zigzagOf}
 use Rattle.varint.specs.Uleb128.{groups, uleb128}
 use Rattle.varint.specs.Varint.{scan, varintOf}
 use Rattle.payload.specs.Choice.{_and_, if_then_else_}

@@ -11,7 +11,7 @@ use lib.IntN.{pos, ℤ}
 use lib.ListN.{drop, length, length-append}
 use borrow.Author.Tests.{eqb-true, lt-ltb, ltb-true}
 use Rattle.slices.specs.Laws.LittleEndian.{Bytes}
-use Rattle.varint.specs.Signed.{wordOf}
+use Rattle.signed.specs.Signed.{wordOf}
 use Rattle.payload.specs.Demand3.{Listed, allItems, allOf, itemListed}
 use Rattle.payload.specs.Laws.Equal.{single-bytes}
 use Rattle.payload.specs.Laws.Given.{length-span-words}

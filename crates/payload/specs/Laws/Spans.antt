@@ -9,9 +9,9 @@ use lib.IntN.{+ℤ-comm, +ℤ-idr, -ℤ-+ℤ-cancel, _+ℤ_, _-ℤ_, negsuc, pos
 use lib.ListN.{length}
 use lib.Signed.{mag}
 use borrow.Author.Tests.{eq-eqb, eqb-true, le-ltb, lt-ltb, ltb-true}
-use Rattle.varint.specs.Laws.Signed.{unzigzag-zigzag, zigzag-range}
-use Rattle.varint.specs.Position.{inRange}
-use Rattle.varint.specs.Signed.{unzigzagOf, wordOf, zigzagOf}
+use Rattle.signed.specs.Laws.Signed.{unzigzag-zigzag, zigzag-range}
+use Rattle.signed.specs.Position.{inRange}
+use Rattle.signed.specs.Signed.{unzigzagOf, wordOf, zigzagOf}
 use Rattle.payload.specs.Choice.{_and_, if_then_else_}
 use Rattle.payload.specs.Laws.Gives.{Gives, gives-as, gives-bind, gives-body, gives-by, gives-here, gives-is, gives-must, gives-pure, gives-spans, gives-then}
 use Rattle.payload.specs.Laws.Pool.{and-both, and-left, and-right}

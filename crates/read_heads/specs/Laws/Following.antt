@@ -12,9 +12,10 @@ use Rattle.payload.specs.declared.Capacities.{Capacities}
 use Rattle.payload.specs.Rows.{rootCount, rowWords}
 use Rattle.payload.specs.Shapes.{ItemKind, Shape, kindsOf, noValue, oneValue, values, keys, pairs, shape, withKids, withChunk, withFields, withTemplate}
 use Rattle.payload.specs.Trees.{Item, Node, Trees, cons, nil, nodeOf}
+use Rattle.row_layout.specs.Under.{rowsUnder}
 use Rattle.read_items.specs.Reads.{Reads, stateAt, stopped}
 use Rattle.read_items.specs.Context.{contextOf}
-use Rattle.read_heads.specs.Heads.{Heading, heading, headWords, readCount, readHead, readKidsCount, rowsUnder, RowRead}
+use Rattle.read_heads.specs.Heads.{Heading, heading, headWords, readCount, readHead, readKidsCount, RowRead}
 use Rattle.read_heads.specs.Following.{readChunkRow, readFieldRow, readFollowing}
 
 ---- steps grouped anew

@@ -13,10 +13,11 @@ use Rattle.payload.specs.declared.Capacities.{Capacities}
 use Rattle.payload.specs.Rows.{itemsWords, itemWords, partWords, itemsSpans, countWords, kidsCountWords, kindWidth, kindsWidth, unusedWords}
 use Rattle.payload.specs.Shapes.{ItemKind, Kids, Shape, kindsOf, noValue, oneValue, values, keys, pairs, withKids}
 use Rattle.payload.specs.Trees.{Item, number, string, nativeName, recordName}
+use Rattle.row_layout.specs.Under.{countIn, rowsUnder}
 use Rattle.read_items.specs.Reads.{Reads, read, stopped, numberAnswer}
 use Rattle.read_items.specs.Context.{partOf, contextOf, ReadsPart}
 use Rattle.read_heads.specs.Class.{shapeOf}
-use Rattle.read_heads.specs.Heads.{heading, readHead, readCount, readKidsCount, rowsUnder, countIn, headWords, RowRead, ReadsHead, numberHead, countHead, partHead}
+use Rattle.read_heads.specs.Heads.{heading, readHead, readCount, readKidsCount, headWords, RowRead, ReadsHead, numberHead, countHead, partHead}
 use Rattle.read_items.specs.Laws.Reads.{reads-pure, reads-then, reads-stop, reads-here, reads-must, reads-must-not}
 use Rattle.read_items.specs.Laws.Context.{length-part}
 use Rattle.read_items.specs.declared.Number.{Number}

@@ -9,10 +9,10 @@ use lib.Signed.{mag}
 use mir.Syntax.{w64}
 use mir.Val.{toZ, ofZ}
 use mir.Facts.{toZ-ofZ}
-use Rattle.varint.specs.Position.{inRange, positionOf}
-use Rattle.varint.specs.Signed.{unzigzagOf}
-use Rattle.varint.specs.declared.Position.{Position}
-use Rattle.varint.specs.declared.Position.the-variants as positions
+use Rattle.signed.specs.Position.{inRange, positionOf}
+use Rattle.signed.specs.Signed.{unzigzagOf}
+use Rattle.signed.specs.declared.Position.{Position}
+use Rattle.signed.specs.declared.Position.the-variants as positions
 use Rattle.payload.specs.Numbers.{varint}
 use Rattle.payload.specs.Spans.{readPosition}
 use Rattle.read_items.specs.Reads.{read, stopped, Reads}

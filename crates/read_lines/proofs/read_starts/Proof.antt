@@ -1,5 +1,5 @@
 -- `read_starts` meets its contract. The invariant: the starts so far stand in the table, and with what the rest of the definition reads they are the whole.
-use mathlib.Core.Path.{refl, ap, _∙_}
+use mathlib.Core.Path.{refl, ap}
 use Prim.Native.Nat.{_^_, ℕ, _-_, _%_}
 use native.Mathlib.Omega.{arith}
 use mir.Syntax.{w64}
@@ -24,13 +24,13 @@ returns c = record { outcome = storing-full (c .before .before .loop .inv) (c .b
 
 loop-again : tie.Need-loop-again Inv-loop μ-loop
 loop-again c =
-    let at-read-position = c .before .before .before .before .before in
+    let at-read-position = c .before .before .before .before in
     let if1 = at-read-position .before .if1 in
     let loop-test = at-read-position .before .before .loop-test in
     let loop = at-read-position .before .before .before .loop in
     storing-more (loop .inv) (loop-test .taken) (if1 .left)
-    (was-position refl (c .before .before .before .moved .given .1) (at-read-position .read-position .ensures))
-    (signed (c .before .before .known-told .given .0 .1)) (c .cut-u32 .ensures ∙ ap (λ (x : ℕ). x % 2 ^ 32) (c .before .to-word .ensures))
+    (was-position refl (c .before .before .moved .given .1) (at-read-position .read-position .ensures))
+    (signed (c .before .known-told .given .0 .1)) (ap (λ (x : ℕ). x % 2 ^ 32) (c .to-word .ensures))
 
 returns-2 : tie.Need-returns-2 Inv-loop μ-loop
 returns-2 c =
@@ -56,7 +56,6 @@ read-starts-spec =
     returns
     (λ c κs. search needs)
     (λ c. search needs)
-    (λ c κs. search needs)
     (λ c κs. search needs)
     (λ c. search needs)
     (λ c. search needs)

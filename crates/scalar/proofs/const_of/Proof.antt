@@ -19,13 +19,13 @@ found : (s : tie.Start) {n : ℕ} → s .args .t ≡ n → constOf n (s .args .a
 found s e = ap (λ (t : ℕ). constOf t (s .args .a) (s .args .b)) (sym e)
 
 cast-t19 : tie.Need-cast-t19
-cast-t19 c = cut-casts w32 tt (lit≤ tt) refl (c .before .before .before .args .a) (c .from-word2 .ensures) (c .before .cut-i32 .ensures)
+cast-t19 c = cut-casts w32 tt (lit≤ tt) refl (c .before .before .before .args .a) (c .from-word2 .ensures) (c .before .cut-signed .ensures)
 
 cast-t29 : tie.Need-cast-t29
-cast-t29 c = cut-casts w16 tt (lit≤ tt) refl (c .before .before .before .args .a) (c .from-word3 .ensures) (c .before .cut-i16 .ensures)
+cast-t29 c = cut-casts w16 tt (lit≤ tt) refl (c .before .before .before .args .a) (c .from-word3 .ensures) (c .before .cut-signed2 .ensures)
 
 cast-t33 : tie.Need-cast-t33
-cast-t33 c = cut-casts w8 tt (lit≤ tt) refl (c .before .before .before .args .a) (c .from-word4 .ensures) (c .before .cut-i8 .ensures)
+cast-t33 c = cut-casts w8 tt (lit≤ tt) refl (c .before .before .before .args .a) (c .from-word4 .ensures) (c .before .cut-signed3 .ensures)
 
 returns : tie.Need-returns
 unfolding constOf
@@ -61,7 +61,7 @@ returns-8 : tie.Need-returns-8
 unfolding constOf
 returns-8 c =
     let start = c .before .before .before in
-    ap (λ (z : ℤ). Value (SInt z)) (cut-cast w32 tt (lit≤ tt) refl (start .args .a) (c .from-word2 .ensures) (c .before .cut-i32 .ensures))
+    ap (λ (z : ℤ). Value (SInt z)) (cut-cast w32 tt (lit≤ tt) refl (start .args .a) (c .from-word2 .ensures) (c .before .cut-signed .ensures))
     ∙ found start (c .before .before .match .keys8)
 
 returns-9 : tie.Need-returns-9
@@ -76,14 +76,14 @@ returns-11 : tie.Need-returns-11
 unfolding constOf
 returns-11 c =
     let start = c .before .before .before in
-    ap (λ (z : ℤ). Value (BSByte z)) (cut-cast w16 tt (lit≤ tt) refl (start .args .a) (c .from-word3 .ensures) (c .before .cut-i16 .ensures))
+    ap (λ (z : ℤ). Value (BSByte z)) (cut-cast w16 tt (lit≤ tt) refl (start .args .a) (c .from-word3 .ensures) (c .before .cut-signed2 .ensures))
     ∙ found start (c .before .before .match .keys11)
 
 returns-12 : tie.Need-returns-12
 unfolding constOf
 returns-12 c =
     let start = c .before .before .before in
-    ap (λ (z : ℤ). Value (SByte z)) (cut-cast w8 tt (lit≤ tt) refl (start .args .a) (c .from-word4 .ensures) (c .before .cut-i8 .ensures))
+    ap (λ (z : ℤ). Value (SByte z)) (cut-cast w8 tt (lit≤ tt) refl (start .args .a) (c .from-word4 .ensures) (c .before .cut-signed3 .ensures))
     ∙ found start (c .before .before .match .keys12)
 
 returns-13 : tie.Need-returns-13

@@ -6,7 +6,7 @@ use borrow.Author.Needs.{needs}
 use mir.Syntax.{w8, w16, w32, w64}
 use mir.Val.{boolByte}
 use mir.Facts.{toZ-ofZ}
-use Rattle.varint.specs.Signed.{wordOf}
+use Rattle.signed.specs.Signed.{wordOf}
 use Rattle.scalar.specs.declared.Scalar.{Scalar}
 use Rattle.scalar.specs.Scalar.{row, wordsOf}
 use Rattle.scalar.proofs.Signed.{widens, widened}

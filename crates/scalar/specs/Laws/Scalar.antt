@@ -10,7 +10,7 @@ use lib.Dec.{T, eqb, leb, ltb}
 use lib.Ieee.{Format, binary32, binary64, nanBits, ofBits, toBits, top}
 use lib.Ieee.Bits.{nanBits-is, toBits-ofBits}
 use borrow.Author.Tests.{eqb-true, eqb-false, leb-true, ltb-true}
-use Rattle.varint.specs.Laws.Signed.{word-signed}
+use Rattle.signed.specs.Laws.Signed.{word-signed}
 use Rattle.payload.specs.Choice.{if_then_else_}
 use Rattle.payload.specs.Laws.Numbers.{scalar-small}
 use Rattle.payload.specs.Numbers.{NumberKind, cutSigned, fitsKind, fitsSigned}

@@ -14,8 +14,8 @@ use Rattle.payload.specs.Rows.{kindWidth, kindsWidth, rowWidth}
 use Rattle.payload.specs.Shapes.{ItemKind, isKeyTag, kindsOf, shape, shapes}
 use Rattle.row_layout.specs.Laws.Layout.{allFrom, shape-all}
 use Rattle.row_layout.specs.Layout.{afterFirst, countWord, firstTest, firstTestOf, itemTest, kidsRules, numberTest, secondTest, secondTestOf, secondWord, shapeRules, underRules, usedWords}
-use Rattle.varint.specs.Laws.Signed.{cut-high, cut-low}
-use Rattle.varint.specs.Signed.{signedOf, wordOf}
+use Rattle.signed.specs.Laws.Signed.{cut-high, cut-low}
+use Rattle.signed.specs.Signed.{signedOf, wordOf}
 use Rattle.scan_rows.specs.Fits.{numberFits, wordsFit}
 use Rattle.scan_rows.specs.Row.{itemFits, itemsFit, keyFits, rowCount, rowFits, tagAt, wordAt, zerosFrom}
 

@@ -10,7 +10,7 @@ use mir.Facts.{toZ-pos, toZ-ofZ}
 use mir.Syntax.{w64}
 use mir.Val.{SFits, toZ}
 use borrow.Author.Needs.{needs}
-use Rattle.varint.specs.Signed.{zigzagOf}
+use Rattle.signed.specs.Signed.{zigzagOf}
 use Rattle.write_code.proofs.zigzag_delta.Statement.{statement}
 use Rattle.write_code.proofs.zigzag_delta.Tie as tie
 

@@ -6,8 +6,8 @@ use lib.IntN.{ℤ}
 use lib.Signed.{mag}
 use mir.Facts.{toZ-ofZ}
 use borrow.Author.Needs.{needs}
-use Rattle.varint.specs.Laws.Signed.{signed-range}
-use Rattle.varint.specs.Signed.{zigzagOf}
+use Rattle.signed.specs.Laws.Signed.{signed-range}
+use Rattle.signed.specs.Signed.{zigzagOf}
 use Rattle.write_rows.proofs.zigzag_word.Statement.{statement}
 use Rattle.write_rows.proofs.zigzag_word.Tie as tie
 

@@ -1,8 +1,5 @@
 -- `read_pool_index` meets its contract: the cut index is below the count of strings, is not, or no varint is read.
-use mathlib.Core.Path.{_≡_}
 use Prim.Native.Nat.{_%_, _^_}
-use Prim.Native.Nat.{_%_, _^_}
-use Prim.Native.Nat.{ℕ, _+_, _*_, _%_, _^_}
 use native.Mathlib.Omega.{arith}
 use borrow.Author.Needs.{needs}
 use Rattle.read_items.specs.Laws.Context.{reads-index, reads-index-above, reads-index-stop}
@@ -12,8 +9,7 @@ use Rattle.read_items.proofs.items.read_pool_index.Tie as tie
 
 returns : tie.Need-returns
 returns c =
-    let cut-u32 = c .before .before .before .cut-u32 in
-    let at-v = c .before .before .before .before .before in
+    let at-v = c .before .before .before .before in
     let v = at-v .v in
     let read-uvarint = at-v .before .before .read-uvarint in
     let start = at-v .before .before .before .before .before in
@@ -21,15 +17,14 @@ returns c =
     let pool = start .args .pool .now in
     let index = was-read (v .given .1) (read-uvarint .ensures) in
     let i = (v .given .0 .0) % 2 ^ 32 in
-    let e : cut-u32 .result ≡ i = cut-u32 .ensures in
-    rw e (record { is = λ names cs. reads-index pool names cs index (omega arith); inside = fits i (omega arith) })
+    record { is = λ names cs. reads-index pool names cs index (omega arith); inside = fits i (omega arith) }
 
 returns-2 : tie.Need-returns-2
 returns-2 c =
-    let read-uvarint = c .before .before .before .before .before .read-uvarint in
-    let pool = c .before .before .before .before .before .before .before .before .args .pool .now in
-    let index = was-read (c .before .before .before .v .given .1) (read-uvarint .ensures) in
-    record { is = λ names cs. reads-index-above pool names cs index (rw (c .before .cut-u32 .ensures) at (c .if1 .left)); inside = tt }
+    let read-uvarint = c .before .before .before .before .read-uvarint in
+    let pool = c .before .before .before .before .before .before .before .args .pool .now in
+    let index = was-read (c .before .before .v .given .1) (read-uvarint .ensures) in
+    record { is = λ names cs. reads-index-above pool names cs index (c .if1 .left); inside = tt }
 
 returns-3 : tie.Need-returns-3
 returns-3 c =
@@ -43,7 +38,6 @@ read-pool-index-spec =
     (tie.spec
     (λ c κs. search needs)
     (λ c. search needs)
-    (λ c κs. search needs)
     (λ c. search needs)
     (λ c. search needs)
     (λ c. search needs)

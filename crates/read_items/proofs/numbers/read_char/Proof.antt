@@ -1,7 +1,7 @@
 -- `read_char` meets its contract: the cut number is a Unicode scalar, is none, or no varint is read.
-use mathlib.Core.Path.{sym, ap, _∙_}
+use mathlib.Core.Path.{sym, _∙_}
 use borrow.Author.Needs.{needs}
-use Rattle.payload.specs.Numbers.{readNumber, isScalar}
+use Rattle.payload.specs.Numbers.{readNumber}
 use Rattle.read_items.specs.Laws.Numbers.{reads-tested, reads-tested-not, reads-tested-stop}
 use Rattle.read_items.specs.Laws.Reads.{was-read, was-refused}
 use Rattle.read_items.proofs.numbers.read_char.Statement.{statement}
@@ -10,19 +10,18 @@ use Rattle.read_items.proofs.numbers.read_char.Tie as tie
 returns : tie.Need-returns
 unfolding readNumber
 returns c =
-    let cut-u32 = c .before .before .cut-u32 in
-    let at-v = c .before .before .before .before in
+    let at-v = c .before .before .before in
     let read-uvarint = at-v .before .before .read-uvarint in
     let v = was-read (at-v .v .given .1) (read-uvarint .ensures) in
-    rw (cut-u32 .ensures) (reads-tested v _ _ _ (sym (ap isScalar (cut-u32 .ensures)) ∙ sym (c .before .is-scalar .ensures) ∙ c .if1 .taken))
+    reads-tested v _ _ _ (sym (c .before .is-scalar .ensures) ∙ c .if1 .taken)
 
 returns-2 : tie.Need-returns-2
 unfolding readNumber
 returns-2 c =
-    let at-v = c .before .before .before .before in
+    let at-v = c .before .before .before in
     let read-uvarint = at-v .before .before .read-uvarint in
     let v = was-read (at-v .v .given .1) (read-uvarint .ensures) in
-    reads-tested-not v _ _ _ (sym (ap isScalar (c .before .before .cut-u32 .ensures)) ∙ sym (c .before .is-scalar .ensures) ∙ c .if1 .left)
+    reads-tested-not v _ _ _ (sym (c .before .is-scalar .ensures) ∙ c .if1 .left)
 
 returns-3 : tie.Need-returns-3
 unfolding readNumber
@@ -34,7 +33,6 @@ read-char-spec =
     (tie.spec
     (λ c κs. search needs)
     (λ c. search needs)
-    (λ c κs. search needs)
     (λ c κs. search needs)
     returns
     (λ c. search needs)

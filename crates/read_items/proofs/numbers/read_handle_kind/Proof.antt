@@ -10,16 +10,16 @@ use Rattle.read_items.proofs.numbers.read_handle_kind.Tie as tie
 returns : tie.Need-returns
 unfolding readNumber
 returns c =
-    let read-uvarint = c .before .before .before .before .before .read-uvarint in
-    let v = was-read (c .before .before .before .v .given .1) (read-uvarint .ensures) in
-    rw (c .before .cut-u8 .ensures) (reads-tested v _ _ _ (le-leb _ _ (rw (c .before .cut-u8 .ensures) at (c .if1 .taken))))
+    let read-uvarint = c .before .before .before .before .read-uvarint in
+    let v = was-read (c .before .before .v .given .1) (read-uvarint .ensures) in
+    reads-tested v _ _ _ (le-leb _ _ (c .if1 .taken))
 
 returns-2 : tie.Need-returns-2
 unfolding readNumber
 returns-2 c =
-    let read-uvarint = c .before .before .before .before .before .read-uvarint in
-    let v = was-read (c .before .before .before .v .given .1) (read-uvarint .ensures) in
-    reads-tested-not v _ _ _ (lt-leb _ _ (rw (c .before .cut-u8 .ensures) at (c .if1 .left)))
+    let read-uvarint = c .before .before .before .before .read-uvarint in
+    let v = was-read (c .before .before .v .given .1) (read-uvarint .ensures) in
+    reads-tested-not v _ _ _ (lt-leb _ _ (c .if1 .left))
 
 returns-3 : tie.Need-returns-3
 unfolding readNumber
@@ -31,7 +31,6 @@ read-handle-kind-spec =
     (tie.spec
     (λ c κs. search needs)
     (λ c. search needs)
-    (λ c κs. search needs)
     returns
     (λ c. search needs)
     returns-2

@@ -5,9 +5,9 @@ use mir.Facts.{toZ-ofZ}
 use mir.Syntax.{w64}
 use mir.Val.{SFits}
 use borrow.Author.Needs.{needs}
-use Rattle.varint.specs.Laws.Signed.{unzigzag-range}
-use Rattle.varint.specs.Signed.{wordOf, unzigzagOf}
-use Rattle.varint.specs.Signed.{wordOf}
+use Rattle.signed.specs.Laws.Signed.{unzigzag-range}
+use Rattle.signed.specs.Signed.{wordOf, unzigzagOf}
+use Rattle.signed.specs.Signed.{wordOf}
 use Rattle.read_items.proofs.numbers.signed_word.Statement.{statement}
 use Rattle.read_items.proofs.numbers.signed_word.Tie as tie
 

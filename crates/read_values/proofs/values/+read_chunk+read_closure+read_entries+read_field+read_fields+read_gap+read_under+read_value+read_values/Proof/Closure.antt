@@ -10,7 +10,7 @@ use Rattle.payload.specs.Rows.{rootCount}
 use Rattle.payload.specs.Shapes.{ItemKind, shape, shapes}
 use Rattle.payload.specs.Trees.{cons}
 use Rattle.read_heads.specs.Class.{shapeOf}
-use Rattle.read_heads.specs.Heads.{rowsUnder}
+use Rattle.row_layout.specs.Under.{rowsUnder}
 use Rattle.read_heads.specs.declared.Class.the-variants.{Closure}
 use Rattle.read_values.specs.Laws.Did.{ran-of, no-of}
 use Rattle.read_values.specs.State.{stateOf}
