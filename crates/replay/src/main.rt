@@ -1,129 +1,180 @@
-// Replays the answers that were recorded in the files of data/: varints, UTF-8 and lines by the Rust, payloads and programs by document 01 and the Rust.
-mod fields;
-mod lines;
+// Replays the answers that are recorded in the files that its arguments name: varints, UTF-8 and lines by the Rust, payloads and programs by document
+// 01 and the Rust. What the replayed calls promise, and what a field or a table of a record says, is in the contracts of their own crates.
+ghost use Prim.Native.Nat.{_<_};
+
+mod leaves;
 mod payloads;
 mod programs;
-mod text;
-mod varints;
 
 use libc::STDOUT_FILENO;
+use payload::Program;
 
-// What the records of a file are of.
-enum Recorded {
-    Uvarint,
-    Ivarint,
-    UvarintWritten,
-    Utf8,
-    LineStarts,
-    LineCol,
-    PayloadRead,
-    PayloadChecked,
-    ProgramWritten,
+// A record lends at most so many words of each table, and so many bytes for an output.
+const ROWS: usize = 512 * Program::ROW_WIDTH;
+
+const SPANS: usize = 2048;
+
+const STARTS: usize = 512;
+
+const POOL: usize = 512;
+
+const OUTPUT: usize = 4096;
+
+// A length in a record.
+fn u16_at(bytes: &[u8], at: usize) -> usize
+    ensures { λ r. ⌜ r < 0x1_0000 ⌝ }
+{
+    recorded::number_at(bytes, at, 2) as usize
 }
 
-// How many records of a file agree: all, or those before the first that does not.
-enum Replayed {
-    All(u64),
-    Differs(u64),
-}
-
-// The length of the first record, or 0 where our answer is another. What a record that is cut short lacks counts as zeros.
-fn first(kind: Recorded, records: &[u8]) -> usize {
-    match kind {
-        Recorded::Uvarint => varints::read(records, false),
-        Recorded::Ivarint => varints::read(records, true),
-        Recorded::UvarintWritten => varints::written(records),
-        Recorded::Utf8 => text::tested(records),
-        Recorded::LineStarts => lines::starts(records),
-        Recorded::LineCol => lines::line_col(records),
-        Recorded::PayloadRead => payloads::read(records),
-        Recorded::PayloadChecked => payloads::checked(records),
-        Recorded::ProgramWritten => programs::written(records),
+// Whether an output holds the recorded bytes, and nothing but this one behind them.
+fn output_agrees(out: &[u8], recorded: &[u8], rest: u8) -> bool {
+    let room = out.len();
+    if OUTPUT < room {
+        return false;
     }
+    if room < recorded.len() {
+        return false;
+    }
+    let mut expected = [rest; OUTPUT];
+    slices::copy_part(&mut expected, 0, recorded);
+    slices::equal(out, &expected[..room])
+}
+
+// A payload read or checked, or a program written, by the letter of the file.
+fn called(
+    letter: u8,
+    records: &[u8],
+    rows: &mut [u64],
+    spans: &mut [u64],
+    starts: &mut [u32],
+    pool: &mut [u64],
+) -> usize {
+    match letter {
+        b'r' => payloads::read(records, rows, spans, starts, pool),
+        b'c' => payloads::checked(records, rows, spans, starts, pool),
+        _ => programs::written(records, rows, spans, starts, pool),
+    }
+}
+
+// Lends the front of each table, as many words as the record says in the fields from `at` on. Ones stand in them, which no call leaves.
+fn lent(letter: u8, records: &[u8], at: usize) -> usize
+    requires { ⌜ at < 8 ⌝ }
+{
+    let r = u16_at(records, at);
+    let s = u16_at(records, at + 2);
+    let t = u16_at(records, at + 4);
+    let p = u16_at(records, at + 6);
+    if ROWS < r {
+        return 0;
+    }
+    if SPANS < s {
+        return 0;
+    }
+    if STARTS < t {
+        return 0;
+    }
+    if POOL < p {
+        return 0;
+    }
+    let mut rows = [1u64; ROWS];
+    let mut spans = [1u64; SPANS];
+    let mut starts = [1u32; STARTS];
+    let mut pool = [1u64; POOL];
+    called(
+        letter,
+        records,
+        &mut rows[..r],
+        &mut spans[..s],
+        &mut starts[..t],
+        &mut pool[..p],
+    )
+}
+
+// The length of the first record, or 0 where our answer is another. What a record that is cut short lacks counts as zeros. What the records are of
+// is told by the first and the fifth letter of the file's name.
+fn first(name: &[u8], records: &[u8]) -> usize {
+    let letter = recorded::number_at(name, 0, 1) as u8;
+    let fifth = recorded::number_at(name, 4, 1) as u8;
+    match letter {
+        b'u' => match fifth {
+            b'i' => leaves::varint_read(records, false),
+            b't' => leaves::varint_written(records),
+            _ => leaves::utf8_tested(records),
+        },
+        b'i' => leaves::varint_read(records, true),
+        b'l' => match fifth {
+            b's' => leaves::line_starts(records),
+            _ => leaves::line_col(records),
+        },
+        b'w' => lent(letter, records, 2),
+        _ => lent(letter, records, 4),
+    }
+}
+
+// Where the records end that agree, and how many they are.
+struct Agreed {
+    end: usize,
+    count: u64,
 }
 
 // Goes on to the first record that does not agree or is cut short.
-fn replay_records(kind: Recorded, records: &[u8]) -> Replayed {
-    let mut at = 0;
+fn agreed_records(name: &[u8], records: &[u8]) -> Agreed {
+    let mut end = 0;
     let mut count: u64 = 0;
-    while at < records.len() {
-        let used = first(kind, &records[at..]);
+    while end < records.len() {
+        let used = first(name, &records[end..]);
         if used == 0 {
-            return Replayed::Differs(count);
+            return Agreed { end, count };
         }
-        if records.len() - at < used {
-            return Replayed::Differs(count);
+        if records.len() - end < used {
+            return Agreed { end, count };
         }
-        at += used;
+        end += used;
         count += 1;
     }
-    Replayed::All(count)
+    Agreed { end, count }
 }
 
-// Writes how many records of a file agree, and answers whether all do. Where one does not, what is written is not what the file `stdout` has, and
-// so the run is refused.
-fn report(name: &[u8], found: Replayed) -> bool {
+// Writes how many records of a file agree. Where one does not, what is written is not what the file `stdout` has, and so the run is refused.
+fn report(name: &[u8], all: bool, count: u64) {
     io::write_all(STDOUT_FILENO, name);
-    match found {
-        Replayed::All(count) => {
-            io::write_all(STDOUT_FILENO, b" ");
-            io::print_decimal(STDOUT_FILENO, count);
-            io::write_all(STDOUT_FILENO, b"\n");
-            true
-        }
-        Replayed::Differs(count) => {
-            io::write_all(STDOUT_FILENO, b" differs after ");
-            io::print_decimal(STDOUT_FILENO, count);
-            io::write_all(STDOUT_FILENO, b"\n");
-            false
-        }
+    if !all {
+        io::write_all(STDOUT_FILENO, b" differs after");
     }
+    io::write_all(STDOUT_FILENO, b" ");
+    io::print_decimal(STDOUT_FILENO, count);
+    io::write_all(STDOUT_FILENO, b"\n");
 }
 
 // A file that fills the buffer may be longer, so it counts as one that cannot be read.
-fn replay(name: &[u8], kind: Recorded) -> bool {
+fn replay(name: &[u8]) {
     let fd = os::open_read(name);
     if fd < 0 {
         os::fail(name);
-        return false;
+        return;
     }
     let mut buffer = io::large_buffer();
     let n = io::read_full(fd, &mut buffer);
     libc::close(fd);
     if 65535 < n {
-        return false;
+        return;
     }
-    report(name, replay_records(kind, &buffer[..n]))
+    let found = agreed_records(name, &buffer[..n]);
+    report(name, found.end == n, found.count);
 }
 
-fn leaves() -> bool {
-    replay(b"uvarint.bin", Recorded::Uvarint)
-        && replay(b"ivarint.bin", Recorded::Ivarint)
-        && replay(b"uwrite.bin", Recorded::UvarintWritten)
-        && replay(b"utf8.bin", Recorded::Utf8)
-        && replay(b"lines.bin", Recorded::LineStarts)
-        && replay(b"linecol.bin", Recorded::LineCol)
-}
-
-fn payloads_read() -> bool {
-    replay(b"read1.bin", Recorded::PayloadRead)
-        && replay(b"read2.bin", Recorded::PayloadRead)
-        && replay(b"read3.bin", Recorded::PayloadRead)
-        && replay(b"read4.bin", Recorded::PayloadRead)
-}
-
-fn programs_written() -> bool {
-    replay(b"write1.bin", Recorded::ProgramWritten)
-        && replay(b"write2.bin", Recorded::ProgramWritten)
-        && replay(b"write3.bin", Recorded::ProgramWritten)
-        && replay(b"write4.bin", Recorded::ProgramWritten)
-}
-
-fn payloads_checked() -> bool {
-    replay(b"check1.bin", Recorded::PayloadChecked)
-        && replay(b"check2.bin", Recorded::PayloadChecked)
+fn replay_arg(i: usize) {
+    let mut name = [0u8; 16];
+    let n = os::arg(i, &mut name);
+    replay(&name[..n]);
 }
 
 fn main() {
-    let _agree = leaves() && payloads_read() && programs_written() && payloads_checked();
+    let count = os::arg_count();
+    let mut i = 1;
+    while i < count {
+        replay_arg(i);
+        i += 1;
+    }
 }

@@ -1,23 +1,33 @@
-// Payloads read and checked, with every word of the tables lent.
+// Payloads read and checked, with every word of the tables lent. A record: lengths u16 of payload and names list, words lent u16 of rows, spans, starts
+// and pool; payload, names list; the nine fields u64 each; the used words of rows, spans and pool u64 each, and the used starts u32 each. All other
+// lent words are 0 after the call, whatever stood there before.
 ghost use Prim.Native.Nat.{_<_};
-use crate::fields;
+use crate::u16_at;
 use payload::Program;
 use payload::Read;
+use recorded::part;
+use recorded::starts_in;
+use recorded::words_in;
 
-// A record lends at most so many words of each table.
-const ROWS: usize = 512 * Program::ROW_WIDTH;
+fn bytes_of(records: &[u8]) -> &[u8] {
+    part(records, 12, u16_at(records, 0))
+}
 
-const SPANS: usize = 2048;
+fn names_of(records: &[u8]) -> &[u8] {
+    part(records, 12 + u16_at(records, 0), u16_at(records, 2))
+}
 
-const STARTS: usize = 512;
-
-const POOL: usize = 512;
+fn fields_from(records: &[u8]) -> usize
+    ensures { λ r. ⌜ r < 0x3_0000 ⌝ }
+{
+    12 + u16_at(records, 0) + u16_at(records, 2)
+}
 
 // Whether the nine fields of an answer are those recorded.
 fn answer_agrees(answer: Read, recorded: &[u8]) -> bool {
     match answer {
         Read::Accepted(counts) => {
-            let fields = [
+            let mut fields = [
                 0,
                 counts.consumed as u64,
                 counts.rows as u64,
@@ -28,134 +38,63 @@ fn answer_agrees(answer: Read, recorded: &[u8]) -> bool {
                 counts.name_o as u64,
                 counts.name_n as u64,
             ];
-            recorded::words_agree(&fields, recorded)
+            words_in(recorded, &mut fields)
         }
         Read::Refused(number, place) => {
-            let fields = [number, place as u64, 0, 0, 0, 0, 0, 0, 0];
-            recorded::words_agree(&fields, recorded)
+            let mut fields = [number, place as u64, 0, 0, 0, 0, 0, 0, 0];
+            words_in(recorded, &mut fields)
         }
     }
 }
 
-// The length of what is recorded from the answer on, or 0 where it differs from the answer and the tables.
+// The end of the record, or 0 where it differs from the answer and the tables, which hold what is recorded afterwards.
 fn agreed(
-    recorded: &[u8],
+    records: &[u8],
     answer: Read,
-    rows: &[u64],
-    spans: &[u64],
-    starts: &[u32],
-    pool: &[u64],
-) -> usize
-    ensures { λ r. ⌜ r < 0x100_0000 ⌝ }
-{
-    let row_bytes = 8 * Program::ROW_WIDTH * fields::u16_at(recorded, 16);
-    let span_bytes = 16 * fields::u16_at(recorded, 24);
-    let start_bytes = 4 * fields::u16_at(recorded, 32);
-    let pool_bytes = 16 * fields::u16_at(recorded, 40);
-    let spans_from = 72 + row_bytes;
+    rows: &mut [u64],
+    spans: &mut [u64],
+    starts: &mut [u32],
+    pool: &mut [u64],
+) -> usize {
+    let from = fields_from(records);
+    let row_bytes = 8 * Program::ROW_WIDTH * u16_at(records, from + 16);
+    let span_bytes = 16 * u16_at(records, from + 24);
+    let start_bytes = 4 * u16_at(records, from + 32);
+    let pool_bytes = 16 * u16_at(records, from + 40);
+    let spans_from = from + 72 + row_bytes;
     let pool_from = spans_from + span_bytes;
     let starts_from = pool_from + pool_bytes;
-    let agrees = answer_agrees(answer, recorded::part(recorded, 0, 72))
-        && recorded::words_agree(rows, recorded::part(recorded, 72, row_bytes))
-        && recorded::words_agree(spans, recorded::part(recorded, spans_from, span_bytes))
-        && recorded::words_agree(pool, recorded::part(recorded, pool_from, pool_bytes))
-        && recorded::starts_agree(starts, recorded::part(recorded, starts_from, start_bytes));
-    if agrees { starts_from + start_bytes } else { 0 }
+    let end = starts_from + start_bytes;
+    let agrees = answer_agrees(answer, part(records, from, 72))
+        & words_in(part(records, from + 72, row_bytes), rows)
+        & words_in(part(records, spans_from, span_bytes), spans)
+        & words_in(part(records, pool_from, pool_bytes), pool)
+        & starts_in(part(records, starts_from, start_bytes), starts);
+    if agrees { end } else { 0 }
 }
 
-fn answer_of(
-    checked: bool,
-    bytes: &[u8],
-    names: &[u8],
+pub(crate) fn read(
+    records: &[u8],
     rows: &mut [u64],
     spans: &mut [u64],
     starts: &mut [u32],
     pool: &mut [u64],
-) -> Read {
-    if checked {
-        house::house_check(bytes, names, rows, spans, starts, pool)
-    } else {
-        deserialize::deserialize_payload(bytes, names, rows, spans, starts, pool)
-    }
+) -> usize {
+    let bytes = bytes_of(records);
+    let names = names_of(records);
+    let answer = deserialize::deserialize_payload(bytes, names, rows, spans, starts, pool);
+    agreed(records, answer, rows, spans, starts, pool)
 }
 
-// Reads or checks a payload into lent tables.
-fn agreed_read(
-    checked: bool,
-    bytes: &[u8],
-    names: &[u8],
-    recorded: &[u8],
+pub(crate) fn checked(
+    records: &[u8],
     rows: &mut [u64],
     spans: &mut [u64],
     starts: &mut [u32],
     pool: &mut [u64],
-) -> usize
-    ensures { λ r. ⌜ r < 0x100_0000 ⌝ }
-{
-    let answer = answer_of(checked, bytes, names, rows, spans, starts, pool);
-    agreed(recorded, answer, rows, spans, starts, pool)
-}
-
-// Lends the front of each table, as many words as the record says.
-fn lent(checked: bool, records: &[u8], bytes: &[u8], names: &[u8], recorded: &[u8]) -> usize
-    ensures { λ r. ⌜ r < 0x100_0000 ⌝ }
-{
-    let r = fields::u16_at(records, 4);
-    let s = fields::u16_at(records, 6);
-    let t = fields::u16_at(records, 8);
-    let p = fields::u16_at(records, 10);
-    if ROWS < r {
-        return 0;
-    }
-    if SPANS < s {
-        return 0;
-    }
-    if STARTS < t {
-        return 0;
-    }
-    if POOL < p {
-        return 0;
-    }
-    let mut rows = [1u64; ROWS];
-    let mut spans = [1u64; SPANS];
-    let mut starts = [1u32; STARTS];
-    let mut pool = [1u64; POOL];
-    agreed_read(
-        checked,
-        bytes,
-        names,
-        recorded,
-        &mut rows[..r],
-        &mut spans[..s],
-        &mut starts[..t],
-        &mut pool[..p],
-    )
-}
-
-// Lengths u16 of payload and names list, words lent u16 of rows, spans, starts and pool; payload, names list; the nine fields u64 each; the used
-// words of rows, spans and pool u64 each, and the used starts u32 each. All other lent words are 0 after the call, whatever stood there before.
-fn replayed(checked: bool, records: &[u8]) -> usize {
-    let size = fields::u16_at(records, 0);
-    let names_from = 12 + size;
-    let names_size = fields::u16_at(records, 2);
-    let from = names_from + names_size;
-    let used = lent(
-        checked,
-        records,
-        recorded::part(records, 12, size),
-        recorded::part(records, names_from, names_size),
-        fields::rest(records, from),
-    );
-    if used == 0 {
-        return 0;
-    }
-    from + used
-}
-
-pub fn read(records: &[u8]) -> usize {
-    replayed(false, records)
-}
-
-pub fn checked(records: &[u8]) -> usize {
-    replayed(true, records)
+) -> usize {
+    let bytes = bytes_of(records);
+    let names = names_of(records);
+    let answer = house::house_check(bytes, names, rows, spans, starts, pool);
+    agreed(records, answer, rows, spans, starts, pool)
 }

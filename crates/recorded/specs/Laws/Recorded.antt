@@ -1,36 +1,22 @@
--- Laws of recorded numbers and tables: the number at an index, one more element of a table that agrees, one more that is put in.
-use mathlib.Core.Bool.{true, false}
+-- Laws of recorded numbers and tables: the number at an index, the zeros behind the last, one more number that is put into a table.
+use mathlib.Core.Bool.{Bool, _&&_, and-assoc, and-true}
 use mathlib.Core.List.{List, [], _∷_, _++_, append-nil}
 use mathlib.Core.Path.{_≡_, refl, sym, ap, _∙_}
-use Prim.Native.Nat.{ℕ, zero, suc, _+_, _-_, _*_, _/_, _^_, _≤_, _<_}
-use native.Mathlib.Nat.{mul-zero, mul-suc, mul-comm, le-div-iff-mul-le, pow-suc, pow-le-pow-right}
+use Prim.Native.Nat.{ℕ, zero, suc, _+_, _-_, _*_, _^_, _≤_, _<_}
+use native.Mathlib.Nat.{zero-add, suc-add, mul-zero, mul-suc, pow-le-pow-right}
 use native.Mathlib.Numerals.{add-one}
 use native.Mathlib.Omega.{arith}
-use lib.ListN.{length, getD, set, take, drop, replicate, length-append, length-replicate, length-drop, drop-of-length-le, length-set, length-take}
-use lib.Seq.{append-snoc, drop-cons, drop-drop, drop-length, length-take-le, set-at, take-all, take-nil, take-suc}
+use lib.Dec.{leb, eqb}
+use lib.ListN.{length, getD, set, take, drop, length-append, length-replicate, length-drop, drop-of-length-le, length-set, length-take}
+use lib.Seq.{append-snoc, drop-cons, drop-drop, drop-nil, getD-at, length-take-le, set-at, take-all, take-nil, take-suc}
 use Rattle.slices.specs.LittleEndian.{fromLeBytes}
+use Rattle.slices.specs.Put.{put}
 use Rattle.slices.specs.Same.{same}
-use Rattle.slices.specs.Laws.Same.{same-step, same-differ, same-end, same-long}
-use Rattle.recorded.specs.Recorded.{numberAt, numbers, filled, agrees}
-
-pub length-numbers : (width count : ℕ) (bytes : List ℕ) → length (numbers width count bytes) ≡ count
-unfolding numbers
-length-numbers width zero bytes = refl
-length-numbers width (suc count) bytes = ap suc (length-numbers width count (drop width bytes))
-
-pub number-of : (width count i : ℕ) (bytes : List ℕ) → i < count → getD (numbers width count bytes) i 0 ≡ numberAt width bytes (width * i)
-unfolding numbers
-number-of width zero i bytes h = absurd (omega arith)
-number-of width (suc count) zero bytes h = rw (mul-zero width)
-number-of width (suc count) (suc i) bytes h =
-    let e : width + width * i ≡ width * suc i = omega (arith, mul-suc width i) in
-    number-of width count i (drop width bytes) (omega arith) ∙ rw (drop-drop (width * i) width bytes, e)
-
--- a whole number stands inside
-pub whole-fits : (width size i : ℕ) → 0 < width → i < size / width → width * i + width ≤ size
-whole-fits width size i h l =
-    let m : suc i * width ≤ size = le-div-iff-mul-le {k = width} {x = suc i} {y = size} h .0 (omega arith) in
-    omega (arith, m, mul-comm (suc i) width, mul-suc width i)
+use Rattle.slices.specs.Zeros.{zeros}
+use Rattle.slices.specs.Laws.LittleEndian.{Bytes, part-bytes, fromLeBytes-append, fromLeBytes-lt}
+use Rattle.slices.specs.Laws.Put.{drop-put}
+use Rattle.slices.specs.Laws.Same.{same-snoc}
+use Rattle.recorded.specs.Recorded.{numberAt, numbers, agrees}
 
 ---- a part
 
@@ -41,144 +27,119 @@ module _ (bytes : List ℕ) (from size : ℕ) where
   pub part-rest : length bytes - from ≤ size → take size (drop from bytes) ≡ drop from bytes
   part-rest h = take-all size (drop from bytes) (simp length-drop h)
 
----- a number read from its highest byte down
+---- a number
 
--- all but the i lowest bytes of a number are read
-pub record Reading (bytes : List ℕ) (n i : ℕ) : Type 0 where
-  pub inside : i ≤ length bytes
-  pub is : n ≡ fromLeBytes (drop i bytes)
-  pub small : n < 256 ^ (length bytes - i)
-
-pub reading-start : (bytes : List ℕ) → Reading bytes 0 (length bytes)
+fromLeBytes-zeros : (n : ℕ) → fromLeBytes (zeros n) ≡ 0
 unfolding fromLeBytes
-reading-start bytes =
-    let e : length bytes - length bytes ≡ 0 = omega arith in
-    record { inside = omega arith; is = rw (drop-length bytes); small = rw e (omega arith) }
+fromLeBytes-zeros zero = refl
+fromLeBytes-zeros (suc n) = omega (arith, fromLeBytes-zeros n)
 
-module _ (bytes : List ℕ) (n i : ℕ) (r : Reading bytes n i) (more : 0 < i) where
-  -- one byte more fits into a word
-  pub reading-fits : length bytes ≤ 8 → n < 256 ^ 7
-  reading-fits h =
-      let l : 256 ^ (length bytes - i) ≤ 256 ^ 7 = pow-le-pow-right (omega arith) {i = length bytes - i} {j = 7} (omega arith) in
-      omega (arith, r .small)
+drop-zeros : (n k : ℕ) → drop k (zeros n) ≡ zeros (n - k)
+drop-zeros n zero = let e : n - 0 ≡ n = omega arith in rw e
+drop-zeros zero (suc k) = let e : 0 - suc k ≡ 0 = omega arith in rw e
+drop-zeros (suc n) (suc k) = let e : suc n - suc k ≡ n - k = omega arith in rw e (drop-zeros n k)
 
-  pub reading-next : getD bytes (i - 1) 0 < 256 → Reading bytes (n * 256 + getD bytes (i - 1) 0) (i - 1)
-  unfolding fromLeBytes
-  reading-next l =
-      let inside = r .inside in
-      let e : length bytes - (i - 1) ≡ suc (length bytes - i) = omega arith in
-      let f : suc (i - 1) ≡ i = omega arith in
-      let h : i - 1 < length bytes = omega arith in
-      let first : fromLeBytes (drop (i - 1) bytes) ≡ getD bytes (i - 1) 0 + 256 * fromLeBytes (drop i bytes) =
-      rw (drop-cons bytes (i - 1) 0 h) (ap (λ (k : ℕ). getD bytes (i - 1) 0 + 256 * fromLeBytes (drop k bytes)) f) in
-      record {
-        inside = omega arith;
-        is = omega (arith, first, r .is);
-        small = rw e (omega (arith, r .small, pow-suc 256 (length bytes - i)));
-      }
+-- at most eight bytes, stored at the front of eight zeros
+pub number-in-word : (s : List ℕ) → length s ≤ 8 → fromLeBytes (take 8 (drop 0 (put (zeros 8) 0 s))) ≡ fromLeBytes s
+number-in-word s h =
+    let e : drop 0 (put (zeros 8) 0 s) ≡ s ++ drop (length s) (zeros 8) = drop-put (zeros 8) 0 s (omega arith) ∙ rw (zero-add (length s)) in
+    let l : length (s ++ zeros (8 - length s)) ≤ 8 = simp (length-append, length-replicate) (omega arith) in
+    let z : 256 ^ length s * 0 ≡ 0 = mul-zero (256 ^ length s) in
+    rw (e, drop-zeros 8 (length s), take-all 8 (s ++ zeros (8 - length s)) l, fromLeBytes-append s (zeros (8 - length s)), fromLeBytes-zeros (8 - length s), z)
+    (omega arith)
 
-pub reading-end : {bytes : List ℕ} {n i : ℕ} → Reading bytes n i → i ≤ 0 → (n ≡ fromLeBytes bytes) × (n < 256 ^ length bytes)
-reading-end {bytes} {n} {i} r h =
-    let e : i ≡ 0 = omega arith in
-    let f : length bytes - 0 ≡ length bytes = omega arith in
-    (rw e at (r .is), rw (e, f) at (r .small))
+-- fewer bytes make a smaller number
+pub number-small : (width at : ℕ) (bytes : List ℕ) → Bytes bytes → numberAt width bytes at < 256 ^ width
+number-small width at bytes b =
+    let s = take width (drop at bytes) in
+    let l : length s ≤ width = simp length-take (omega arith) in
+    let m : 256 ^ length s ≤ 256 ^ width = pow-le-pow-right (omega arith) {i = length s} {j = width} l in
+    omega (arith, fromLeBytes-lt s (part-bytes bytes at width b))
 
--- a number of fewer bytes is smaller
-pub number-small : (width at : ℕ) (bytes : List ℕ) {n : ℕ} → n < 256 ^ length (take width (drop at bytes)) → n < 256 ^ width
-number-small width at bytes h =
-    let l : length (take width (drop at bytes)) ≤ width = simp length-take (omega arith) in
-    let m : 256 ^ length (take width (drop at bytes)) ≤ 256 ^ width = pow-le-pow-right (omega arith) {i = length (take width (drop at bytes))} {j = width} l in
-    omega arith
+---- numbers
 
----- a table that is compared
+length-numbers : (width count : ℕ) (bytes : List ℕ) → length (numbers width count bytes) ≡ count
+unfolding numbers
+length-numbers width zero bytes = refl
+length-numbers width (suc count) bytes = ap suc (length-numbers width count (drop width bytes))
 
--- any default will do inside a list
-pub getD-inside : (l : List ℕ) (i a b : ℕ) → i < length l → getD l i a ≡ getD l i b
-getD-inside [] i a b h = absurd (omega arith)
-getD-inside (x ∷ l) zero a b h = refl
-getD-inside (x ∷ l) (suc i) a b h = getD-inside l i a b (omega arith)
+number-of : (width count i : ℕ) (bytes : List ℕ) → i < count → getD (numbers width count bytes) i 0 ≡ numberAt width bytes (width * i)
+unfolding numbers
+number-of width zero i bytes h = absurd (omega arith)
+number-of width (suc count) zero bytes h = rw (mul-zero width)
+number-of width (suc count) (suc i) bytes h =
+    let e : width + width * i ≡ width * suc i = omega (arith, mul-suc width i) in
+    number-of width count i (drop width bytes) (omega arith) ∙ rw (drop-drop (width * i) width bytes, e)
 
-getD-replicate : (k i rest : ℕ) → getD (replicate k rest) i rest ≡ rest
-getD-replicate zero i rest = refl
-getD-replicate (suc k) zero rest = refl
-getD-replicate (suc k) (suc i) rest = getD-replicate k i rest
+numbers-none : (width count : ℕ) → numbers width count [] ≡ zeros count
+unfolding numbers fromLeBytes
+numbers-none width zero = refl
+numbers-none width (suc count) = rw (take-nil width, drop-nil width, numbers-none width count)
 
-getD-filled : (l : List ℕ) (k i rest : ℕ) → getD (l ++ replicate k rest) i rest ≡ getD l i rest
-getD-filled [] k i rest = getD-replicate k i rest
-getD-filled (x ∷ l) k zero rest = refl
-getD-filled (x ∷ l) k (suc i) rest = getD-filled l k i rest
+-- zeros behind what is recorded
+pub numbers-past : (width count more : ℕ) (bytes : List ℕ) → length bytes ≤ width * count → numbers width (count + more) bytes ≡ numbers width count bytes ++ zeros more
+unfolding numbers
+numbers-past width zero more bytes h =
+    let e : length bytes ≤ 0 = omega (arith, mul-zero width) in
+    let f : bytes ≡ [] = drop-of-length-le bytes {i = 0} e in
+    rw (zero-add more, f, numbers-none width more)
+numbers-past width (suc count) more bytes h =
+    let l : length (drop width bytes) ≤ width * count = simp length-drop (omega (arith, mul-suc width count)) in
+    rw (suc-add count more, numbers-past width count more (drop width bytes) l)
 
-module _ (rest : ℕ) (table recorded : List ℕ) where
-  -- a table that is too short
-  pub agrees-short : length table < length recorded → agrees rest table recorded ≡ false
-  unfolding agrees
-  agrees-short h = same-long table (filled rest (length table) recorded) (λ e. omega (arith, simp (length-append, length-replicate) at e))
+---- a table that the numbers are put into
 
-  -- what is left to compare from an index on
-  pub record Comparing (i : ℕ) : Type 0 where
-    pub room : length recorded ≤ length table
-    pub inside : i ≤ length table
-    pub is : agrees rest table recorded ≡ same (drop i table) (drop i (filled rest (length table) recorded))
+module _ (width : ℕ) (recorded before : List ℕ) where
+  abbrev recordedNumbers : List ℕ
+  recordedNumbers = numbers width (length before) recorded
 
-  length-filled : length recorded ≤ length table → length (filled rest (length table) recorded) ≡ length table
-  length-filled h = simp (length-append, length-replicate) (omega arith)
+  -- the first i numbers are put in, and it is told whether they stood there before
+  pub record PutIn (table : List ℕ) (told : Bool) (i : ℕ) : Type 0 where
+    pub long : length table ≡ length before
+    pub is : table ≡ take i recordedNumbers ++ drop i before
+    pub same-as : told ≡ (leb (length recorded) (width * length before) && same (take i before) (take i recordedNumbers))
 
-  filled-at : (i : ℕ) → length recorded ≤ length table → i < length table → getD (filled rest (length table) recorded) i 0 ≡ getD recorded i rest
-  filled-at i h l =
-      let e = length-filled h in
-      getD-inside (filled rest (length table) recorded) i 0 rest (omega arith) ∙ getD-filled recorded (length table - length recorded) i rest
+  pub put-start : PutIn before (leb (length recorded) (width * length before)) 0
+  unfolding same
+  put-start = record { long = refl; is = refl; same-as = sym (and-true (leb (length recorded) (width * length before))) }
 
-  pub comparing-start : length recorded ≤ length table → Comparing 0
-  unfolding agrees
-  comparing-start h = record { room = h; inside = omega arith; is = refl }
+  module _ (table : List ℕ) (told : Bool) (i : ℕ) (p : PutIn table told i) where
+    -- the table from the next number on, which stands as before
+    rest : i < length before → table ≡ take i recordedNumbers ++ getD before i 0 ∷ drop (suc i) before
+    rest h = p .is ∙ rw (drop-cons before i 0 h)
 
-  module _ (i : ℕ) (c : Comparing i) where
-    pub comparing-next : i < length table → getD table i 0 ≡ getD recorded i rest → Comparing (i + 1)
-    comparing-next h e =
-        let f = filled-at i (c .room) h in
-        let l = length-filled (c .room) in
+    put-one : i < length table → PutIn (set table i (getD recordedNumbers i 0)) (told && eqb (getD table i 0) (getD recordedNumbers i 0)) (i + 1)
+    put-one h =
+        let l = p .long in
+        let s = recordedNumbers in
+        let size : length s ≡ length before = length-numbers width (length before) recorded in
+        let m : i < length before = omega arith in
+        let n : i < length s = omega arith in
+        let front : length (take i s) ≡ i = length-take-le i s (omega arith) in
+        let e : getD table i 0 ≡ getD before i 0 =
+        ap (λ (t : List ℕ). getD t i 0) (rest m) ∙ getD-at (take i s) (getD before i 0) (drop (suc i) before) 0 i front in
         record {
-          room = c .room;
-          inside = omega arith;
-          is = c .is ∙ same-step table (filled rest (length table) recorded) i h (omega arith) (e ∙ sym f);
+          long = length-set table i (getD s i 0) ∙ p .long;
+          is =
+              ap (λ (t : List ℕ). set t i (getD s i 0)) (rest m)
+              ∙ set-at (take i s) (getD before i 0) (drop (suc i) before) (getD s i 0) i front
+              ∙ rw (add-one i, take-suc s i 0 n) (sym (append-snoc (take i s) (getD s i 0) (drop (suc i) before)));
+          same-as =
+              rw (p .same-as, e, same-snoc before s i m n)
+              (and-assoc (leb (length recorded) (width * length before)) (same (take i before) (take i s)) (eqb (getD before i 0) (getD s i 0)));
         }
 
-    pub comparing-differs : i < length table → (getD table i 0 ≡ getD recorded i rest → ⊥) → agrees rest table recorded ≡ false
-    comparing-differs h n =
-        let f = filled-at i (c .room) h in
-        let l = length-filled (c .room) in
-        c .is ∙ same-differ table (filled rest (length table) recorded) i h (omega arith) (λ e. n (e ∙ f))
+    pub put-next : (n : ℕ) → n ≡ numberAt width recorded (width * i) → i < length table → PutIn (set table i n) (told && eqb (getD table i 0) n) (i + 1)
+    put-next n e h =
+        let l = p .long in
+        let f : n ≡ getD recordedNumbers i 0 = e ∙ sym (number-of width (length before) i recorded (omega arith)) in
+        rw f (put-one h)
 
-    pub comparing-ends : length table ≤ i → agrees rest table recorded ≡ true
-    comparing-ends h = let l = length-filled (c .room) in c .is ∙ same-end table (filled rest (length table) recorded) i h (omega arith)
-
----- a table that is filled
-
--- the first i elements of a table are those of s, which has as many
-pub record PutIn (before s table : List ℕ) (i : ℕ) : Type 0 where
-  pub long : length table ≡ length before
-  pub is : table ≡ take i s ++ drop i before
-
-pub put-start : (before s : List ℕ) → PutIn before s before 0
-put-start before s = record { long = refl; is = refl }
-
-module _ (before s table : List ℕ) (i : ℕ) (size : length s ≡ length before) (p : PutIn before s table i) where
-  put-one : i < length before → set (take i s ++ drop i before) i (getD s i 0) ≡ take (i + 1) s ++ drop (i + 1) before
-  put-one h =
-      let k : i < length s = omega arith in
-      rw (add-one i, take-suc s i 0 k, drop-cons before i 0 h)
-      (set-at (take i s) (getD before i 0) (drop (suc i) before) (getD s i 0) i (length-take-le i s (omega arith))
-      ∙ sym (append-snoc (take i s) (getD s i 0) (drop (suc i) before)))
-
-  pub put-next : i < length table → PutIn before s (set table i (getD s i 0)) (i + 1)
-  put-next h =
-      let l = p .long in
-      record {
-        long = length-set table i (getD s i 0) ∙ p .long;
-        is = ap (λ (t : List ℕ). set t i (getD s i 0)) (p .is) ∙ put-one (omega arith);
-      }
-
-  pub put-end : length table ≤ i → table ≡ s
-  put-end h =
-      let l = p .long in
-      p .is ∙ rw (take-all i s (omega arith), drop-of-length-le before {i = i} (omega arith), append-nil)
+    pub put-end : length table ≤ i → (told ≡ agrees width before recorded) × (table ≡ recordedNumbers)
+    unfolding agrees
+    put-end h =
+        let l = p .long in
+        let size : length recordedNumbers ≡ length before = length-numbers width (length before) recorded in
+        let m : length before ≤ i = omega arith in
+        let n : length recordedNumbers ≤ i = omega arith in
+        (p .same-as ∙ rw (take-all i before m, take-all i recordedNumbers n), p .is ∙ rw (take-all i recordedNumbers n, drop-of-length-le before m, append-nil))

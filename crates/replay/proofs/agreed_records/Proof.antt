@@ -1,18 +1,18 @@
--- `replay_records` is safe and ends: each record that agrees has at least one byte.
+-- `agreed_records` is safe and ends: each record that agrees has at least one byte.
 use Prim.Native.Nat.{_-_, _≤_}
 use lib.ListN.{length}
 use borrow.Author.Needs.{needs}
-use Rattle.replay.proofs.replay_records.Statement.{statement}
-use Rattle.replay.proofs.replay_records.Tie as tie
+use Rattle.replay.proofs.agreed_records.Statement.{statement}
+use Rattle.replay.proofs.agreed_records.Tie as tie
 
 abbrev Inv-loop : tie.InvT-loop
-Inv-loop kind records at₀ count₀ at count = count ≤ at
+Inv-loop name records end₀ count₀ end count = count ≤ end
 
 abbrev μ-loop : tie.MeasureT-loop
-μ-loop kind records at₀ count₀ at count = length records - at
+μ-loop name records end₀ count₀ end count = length records - end
 
-pub replay-records-spec : {M : Type 1} → statement M
-replay-records-spec =
+pub agreed-records-spec : {M : Type 1} → statement M
+agreed-records-spec =
     tie.close
     (tie.spec
     Inv-loop
