@@ -1,6 +1,6 @@
 // A chunk's code, and its spans as maximal runs.
 ghost use mathlib.Core.Path.{_≡_};
-ghost use mathlib.Core.Bool.{cond};
+ghost use mathlib.Core.Bool.{true, cond};
 ghost use mathlib.Core.List.{[], _∷_, _++_};
 ghost use Prim.Native.Nat.{_+_, _/_, _^_, _≤_, _<_};
 ghost use lib.ListN.{length};
@@ -156,15 +156,32 @@ fn width(n: u64) -> usize
     varint::uvarint_width(n)
 }
 
-// How many bytes the count n of a run that ends and the deltas x and y of the next one have; none where no run ends. Most have one byte each.
-fn boundary_width(ends: bool, n: u64, x: u64, y: u64) -> usize
-    ensures { λ r. ⌜ (r ≡ cond ends (length (uleb128 n) + (length (uleb128 x) + length (uleb128 y))) 0) × (r ≤ 30) ⌝ }
+fn delta_width(old: u64, new: u64) -> usize
+    requires { ⌜ (old < 2 ^ 63) × (new < 2 ^ 63) ⌝ }
+    ensures { λ r. ⌜ (r ≡ length (writeDelta old new)) × (r ≤ 10) ⌝ }
 {
-    if ((x < 128) & (y < 128)) & (n < 128) {
+    width(zigzag_delta(old, new))
+}
+
+// Whether a delta is from -64 to 63: it has one byte then.
+fn is_near(old: u64, new: u64) -> bool
+    requires { ⌜ (old < 2 ^ 63) × (new < 2 ^ 63) ⌝ }
+    ensures { λ r. ⌜ (r ≡ true → length (writeDelta old new) ≡ 1) ⌝ }
+{
+    std::num::wrapping_sub_u64(new + 64, old) < 128
+}
+
+// Where a run of n spans a, b ends and one of spans c, d begins: how many bytes the count of the one and the deltas of the other have. Most have one each,
+// and then there is no branch on whether a run ends.
+fn boundary_width(ends: bool, n: u64, a: u64, b: u64, c: u64, d: u64) -> usize
+    requires { ⌜ ((a < 2 ^ 63) × (c < 2 ^ 63)) × ((b < 2 ^ 63) × (d < 2 ^ 63)) ⌝ }
+    ensures { λ r. ⌜ (r ≡ cond ends (length (uleb128 n) + (length (writeDelta a c) + length (writeDelta b d))) 0) × (r ≤ 30) ⌝ }
+{
+    if (is_near(a, c) & is_near(b, d)) & (n < 128) {
         return 3 * one_if(ends);
     }
     if ends {
-        return width(n) + (width(x) + width(y));
+        return width(n) + (delta_width(a, c) + delta_width(b, d));
     }
     0
 }
@@ -182,18 +199,13 @@ fn runs_length(spans: &[u64]) -> usize
     let mut b = spans[1];
     let mut runs: usize = 1;
     let mut begun: usize = 0;
-    let mut length = width(zigzag_delta(0, a)) + width(zigzag_delta(0, b));
+    let mut length = delta_width(0, a) + delta_width(0, b);
     let mut k: usize = 1;
     while k < count {
         let ends = !is_span(spans, k, a, b);
         let c = spans[2 * k];
         let d = spans[2 * k + 1];
-        length += boundary_width(
-            ends,
-            (k - begun) as u64,
-            zigzag_delta(a, c),
-            zigzag_delta(b, d),
-        );
+        length += boundary_width(ends, (k - begun) as u64, a, b, c, d);
         runs += one_if(ends);
         begun = either(ends, k, begun);
         a = c;

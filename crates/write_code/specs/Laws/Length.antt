@@ -44,16 +44,16 @@ measured-start ws n h e g =
     }
 
 -- the next span goes on with the run, or begins another
-pub measured-next : (ws : List ℕ) (begun k a b runs n more one begun′ : ℕ) (t : Bool) → Measured ws begun k a b runs n → k < length ws / 2 → t ≡ sameSpan (span a b) (spanAt ws k)
-    → more ≡ cond (not t) (length (uleb128 (k - begun)) + (length (writeDelta a (getD ws (2 * k) 0)) + length (writeDelta b (getD ws (2 * k + 1) 0)))) 0 → more ≤ 30
-    → one ≡ cond (not t) 1 0 → begun′ ≡ cond (not t) k begun
-    → Measured ws begun′ (k + 1) (getD ws (2 * k) 0) (getD ws (2 * k + 1) 0) (runs + one) (n + more)
-measured-next ws begun k a b runs n more one begun′ t m h e q g u v = go t (sym e) q u v
+pub measured-next : (ws : List ℕ) (begun k a b runs n begun′ runs′ n′ : ℕ) (t : Bool) → Measured ws begun k a b runs n → k < length ws / 2 → t ≡ sameSpan (span a b) (spanAt ws k)
+    → begun′ ≡ cond (not t) k begun → runs′ ≡ runs + cond (not t) 1 0 → n′ ≤ n + 30
+    → n′ ≡ n + cond (not t) (length (uleb128 (k - begun)) + (length (writeDelta a (getD ws (2 * k) 0)) + length (writeDelta b (getD ws (2 * k + 1) 0)))) 0
+    → Measured ws begun′ (k + 1) (getD ws (2 * k) 0) (getD ws (2 * k + 1) 0) runs′ n′
+measured-next ws begun k a b runs n begun′ runs′ n′ t m h e v u g q = go t (sym e) v u q
   where
-    go : (t : Bool) → sameSpan (span a b) (spanAt ws k) ≡ t
-        → more ≡ cond (not t) (length (uleb128 (k - begun)) + (length (writeDelta a (getD ws (2 * k) 0)) + length (writeDelta b (getD ws (2 * k + 1) 0)))) 0
-        → one ≡ cond (not t) 1 0 → begun′ ≡ cond (not t) k begun → Measured ws begun′ (k + 1) (getD ws (2 * k) 0) (getD ws (2 * k + 1) 0) (runs + one) (n + more)
-    go true e q u v =
+    go : (t : Bool) → sameSpan (span a b) (spanAt ws k) ≡ t → begun′ ≡ cond (not t) k begun → runs′ ≡ runs + cond (not t) 1 0
+        → n′ ≡ n + cond (not t) (length (uleb128 (k - begun)) + (length (writeDelta a (getD ws (2 * k) 0)) + length (writeDelta b (getD ws (2 * k + 1) 0)))) 0
+        → Measured ws begun′ (k + 1) (getD ws (2 * k) 0) (getD ws (2 * k + 1) 0) runs′ n′
+    go true e v u q =
         let s = same-span-eq (span a b) (spanAt ws k) e in
         rw (v, ← ap (λ (x : Span). x .start) s, ← ap (λ (x : Span). x .end) s) (record {
           run = run-next ws (span a b) begun k (m .run) h e;
@@ -62,7 +62,7 @@ measured-next ws begun k a b runs n more one begun′ t m h e q g u v = go t (sy
           counted = omega (arith, m .counted);
           bytes = omega (arith, m .bytes);
         })
-    go false e q u v =
+    go false e v u q =
         let r = run-differs ws (span a b) begun k (m .run) h e in
         let l = runEnd ws (spanAt ws k) k in
         let counted : length (runsOf (spansOf ws)) ≡ runs + length (runsOf (spansOf (drop (2 * k) ws))) = rw (r .is) (m .counted) in
