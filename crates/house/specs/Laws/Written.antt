@@ -3,10 +3,10 @@ use mathlib.Core.Bool.{Bool, false, true}
 use mathlib.Core.List.{List, [], _++_, _∷_}
 use mathlib.Core.Option.{Option, none, some}
 use mathlib.Core.Path.{_∙_, _≡_, ap, ap₂, refl, subst, sym}
-use Prim.Native.Nat.{_*_, _-_, _/_, _^_, _≤_, ℕ}
+use Prim.Native.Nat.{_*_, _+_, _-_, _/_, _<_, _^_, _≤_, suc, zero, ℕ}
 use native.Mathlib.Omega.{arith}
 use lib.Dec.{ltb}
-use lib.ListN.{drop, length, take}
+use lib.ListN.{drop, getD, length, take}
 use lib.Seq.{drop-length, take-at}
 use Rattle.slices.specs.Laws.LittleEndian.{Bytes}
 use Rattle.slices.specs.Laws.Same.{same-refl}
@@ -37,11 +37,12 @@ use Rattle.payload.specs.Writing.{gathered, poolOf}
 use Rattle.payload.specs.declared.Counts.{Counts}
 use Rattle.payload.specs.declared.Read.the-variants as read
 use Rattle.pool_index.specs.Laws.Distinct.{interned-distinct}
-use Rattle.pool_index.specs.Strings.{bytesAt, distinct}
-use Rattle.pool_check.specs.Plain.{plainStrings}
+use Rattle.pool_index.specs.Strings.{bytesAt, distinct, poolStrings}
 use Rattle.gather.specs.Gather.{nameParts, rowsParts}
+use Rattle.gather.specs.Laws.Entries.{part-plain}
 use Rattle.gather.specs.Laws.SoundProgram.{strings-found}
 use Rattle.gather.specs.Laws.Parts.{bytesOf}
+use Rattle.pool_check.specs.Distinct.{PartsIn}
 use Rattle.pool_check.specs.Order.{Met, meetAll}
 use Rattle.pool_check.specs.Laws.PoolEntries.{Entries, gathered-entries}
 use Rattle.pool_check.specs.Laws.PoolOrder.{Rising, interned-order, order-interned, pool-rises}
@@ -55,10 +56,23 @@ unfolding allPositions spanWords smallSpans
 positions-are [] = refl
 positions-are (x ∷ ss) = ap (λ (b : Bool). ltb (x .start) (2 ^ 63) and ltb (x .end) (2 ^ 63) and b) (positions-are ss)
 
-strings-read : (p : List ℕ) (xs : List Part) → TextsIn p xs → plainStrings p (partsWords xs) ≡ bytesOf xs
-unfolding plainStrings partsWords partWords bytesAt TextsIn
-strings-read p [] h = refl
-strings-read p (x ∷ xs) h = ap₂ (λ (b : List ℕ) (l : List (List ℕ)). b ∷ l) (h .0 .text-stands .its-bytes) (strings-read p xs (h .1))
+---- the words of a pool
+
+strings-read : (p : List ℕ) → length p ≤ sizeLimit → (xs : List Part) → TextsIn p xs → poolStrings p (partsWords xs) ≡ bytesOf xs
+unfolding poolStrings partsWords partWords bytesAt TextsIn
+strings-read p short [] h = refl
+strings-read p short (x ∷ xs) h =
+    let stands = h .0 .text-stands in
+    ap₂ (λ (b : List ℕ) (l : List (List ℕ)). b ∷ l) (part-plain p (x .offset) (length (x .bytes)) (stands .in-store) short ∙ stands .its-bytes) (strings-read p short xs (h .1))
+
+words-within : (p : List ℕ) (xs : List Part) → TextsIn p xs → (k : ℕ) → k < length xs → getD (partsWords xs) (2 * k) 0 + getD (partsWords xs) (2 * k + 1) 0 ≤ length p
+unfolding partsWords partWords TextsIn
+words-within p [] h k l = absurd (omega arith)
+words-within p (x ∷ xs) h zero l = h .0 .text-stands .in-store
+words-within p (x ∷ xs) h (suc k) l =
+    let a : 2 * suc k ≡ suc (suc (2 * k)) = omega arith in
+    let b : suc (suc (2 * k)) + 1 ≡ suc (suc (2 * k + 1)) = omega arith in
+    rw (a, b) (words-within p xs (h .1) k (omega arith))
 
 ---- what an accepted read left
 
@@ -224,13 +238,24 @@ module _ {names p rows spans starts pool : List ℕ} {n : Counts} (w : WasRead n
   pool-rising = pool-rises caps (isListed names) (start p) (w .u) (w .s) (w .payload-read)
 
   -- the strings of the pool table are those that were read
-  table-strings : plainStrings p (take (2 * n .strings) pool) ≡ bytesOf (w .u .pool)
-  table-strings = ap (plainStrings p) (w .pool-is) ∙ strings-read p (w .u .pool) (w .has .pool-stands)
+  table-strings : poolStrings p (take (2 * n .strings) pool) ≡ bytesOf (w .u .pool)
+  table-strings = ap (poolStrings p) (w .pool-is) ∙ strings-read p (w .short) (w .u .pool) (w .has .pool-stands)
+
+  -- its entries are parts of the payload
+  pub pool-parts : PartsIn p (take (2 * n .strings) pool)
+  unfolding capacitiesOf
+  pool-parts =
+      let count : length (take (2 * n .strings) pool) ≡ 2 * length (w .u .pool) = ap length (w .pool-is) ∙ length-partsWords (w .u .pool) in
+      record {
+        short = w .short;
+        few = omega (arith, w .has .strings-fit);
+        within = λ k l. rw (w .pool-is) (words-within p (w .u .pool) (w .has .pool-stands) k (omega arith));
+      }
 
   once-passed : passes ≡ true → distinct (bytesOf (w .u .pool)) ≡ true
   once-passed e = rw (read-strings caps (small-capacities _ _ _ _) (isListed names) p (w .u) (w .s) (w .payload-read) (writing-read e)) (unfold poolOf in (interned-distinct _ [] (unfold distinct in refl)))
 
-  pub not-once : false ≡ distinct (plainStrings p (take (2 * n .strings) pool)) → false ≡ passes
+  pub not-once : false ≡ distinct (poolStrings p (take (2 * n .strings) pool)) → false ≡ passes
   not-once f = refutes (λ e. false≢true (f ∙ ap distinct table-strings ∙ once-passed e))
 
   module _ (a : allPositions (take (2 * n .spans) spans) ≡ true) where
@@ -248,7 +273,7 @@ module _ {names p rows spans starts pool : List ℕ} {n : Counts} (w : WasRead n
     not-met m ne = refutes (λ e. ne (met-is m ∙ interned-order (w .u .pool) pool-rising (once-passed e) (gathered (w .u .script)) pool-entries (pool-of-passed e) ∙ sym (w .strings)))
 
     -- strings that differ and are first used in the pool's order: the pool table is the one that gathering gives
-    pub table-gathered : {r : ℕ} → Met (take (2 * n .strings) pool) 0 found r → r ≡ n .strings → distinct (plainStrings p (take (2 * n .strings) pool)) ≡ true → take (2 * n .strings) pool ≡ poolWords (scriptOf T)
+    pub table-gathered : {r : ℕ} → Met (take (2 * n .strings) pool) 0 found r → r ≡ n .strings → distinct (poolStrings p (take (2 * n .strings) pool)) ≡ true → take (2 * n .strings) pool ≡ poolWords (scriptOf T)
     unfolding poolWords
     table-gathered m f d =
         let g = sound-tables a in

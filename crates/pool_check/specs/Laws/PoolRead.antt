@@ -6,8 +6,6 @@ use Prim.Native.Nat.{_<_, zero, suc, ℕ}
 use native.Mathlib.Omega.{arith}
 use lib.ListN.{List·getD-map, getD, length, length-map}
 use lib.Seq.{ext-getD}
-use Rattle.slices.specs.Laws.Same.{same-refl}
-use Rattle.slices.specs.Same.{same}
 use Rattle.payload.specs.Choice.{if_then_else_}
 use Rattle.payload.specs.Laws.House.{IsWriting, read-strings}
 use Rattle.payload.specs.Laws.Rules.{Small}
@@ -17,9 +15,10 @@ use Rattle.payload.specs.declared.Capacities.{Capacities}
 use Rattle.payload.specs.Trees.{forgetScript}
 use Rattle.payload.specs.Write.{hasBytes, internedParts}
 use Rattle.payload.specs.Writing.{gathered, poolOf, writing}
-use Rattle.pool_index.specs.Laws.Distinct.{index-at, interned-distinct}
+use Rattle.pool_index.specs.Laws.Distinct.{interned-distinct}
 use Rattle.pool_index.specs.Strings.{distinct}
 use Rattle.gather.specs.Laws.Parts.{bytesOf, pool-bytes}
+use Rattle.pool_check.specs.Laws.Distinct.{string-once}
 use Rattle.pool_check.specs.Laws.PoolEntries.{Entries, Entry, entries-append, gathered-entries, noPart}
 
 ---- entries of a pool that has no string twice
@@ -48,10 +47,7 @@ length-bytes xs = length-map xs (λ (l : Part). l .bytes)
 -- a string stands at one place
 pub entry-once : (pool : List Part) → distinct (bytesOf pool) ≡ true → (i k : ℕ) → i < length pool → k < length pool → getD pool i noPart .bytes ≡ getD pool k noPart .bytes → i ≡ k
 entry-once pool d i k hi hk q =
-    let x = getD pool k noPart .bytes in
-    let a : same x (getD (bytesOf pool) i []) ≡ true = rw (bytes-at pool i, q) (same-refl x) in
-    let b : same x (getD (bytesOf pool) k []) ≡ true = rw (bytes-at pool k) (same-refl x) in
-    sym (index-at x (bytesOf pool) i d (omega (arith, length-bytes pool)) a) ∙ index-at x (bytesOf pool) k d (omega (arith, length-bytes pool)) b
+    string-once (bytesOf pool) d i k (omega (arith, length-bytes pool)) (omega (arith, length-bytes pool)) (bytes-at pool i ∙ q ∙ sym (bytes-at pool k))
 
 -- entries with the bytes of all the pool's are the pool
 same-entries : (pool xs : List Part) → distinct (bytesOf pool) ≡ true → Entries pool xs → bytesOf xs ≡ bytesOf pool → xs ≡ pool
