@@ -19,7 +19,10 @@ const FIRSTS: [u8; 8] = [b'a', 0xC2, 0xE0, 0xE1, 0xED, 0xEE, 0xF0, 0xF4];
 /// Bytes at the ends of the ranges for a byte after the first.
 const TAILS: [u8; 10] = [0x00, 0x7F, 0x80, 0x8F, 0x90, 0x9F, 0xA0, 0xBF, 0xC0, 0xFF];
 
-/// All short strings, all forms of the codes at many places, damaged texts and random bytes.
+/// Lengths about those of the blocks that a test may go by.
+const LENGTHS: [usize; 6] = [16, 32, 48, 64, 128, 144];
+
+/// All short strings, all forms of the codes at many places, texts with one byte changed, damaged texts and random bytes.
 pub fn all(seed: u64, mut each: impl FnMut(&[u8])) {
     let mut random = Random::new(seed);
     every_string(3, &mut each);
@@ -27,6 +30,7 @@ pub fn all(seed: u64, mut each: impl FnMut(&[u8])) {
     for form in edges() {
         at_every_place(&form, &mut each);
     }
+    one_byte_changed(&mut each);
     for _ in 0..RANDOM_INPUTS {
         each(&damaged(&mut random));
         each(&likely(&mut random));
@@ -80,6 +84,24 @@ fn at_every_place(form: &[u8], each: &mut impl FnMut(&[u8])) {
                 bytes.extend(behind.bytes());
                 each(&bytes);
                 bytes.truncate(length);
+            }
+        }
+    }
+}
+
+/// Texts of the lengths, up to two bytes more or less, where each byte in turn is every byte.
+fn one_byte_changed(each: &mut impl FnMut(&[u8])) {
+    for filler in ["a", "é", "aé", "中", "😀"] {
+        for length in LENGTHS.iter().flat_map(|about| about - 2..=about + 2) {
+            let mut bytes = vec![b'.'; length % filler.len()];
+            bytes.extend(filler.repeat(length / filler.len()).bytes());
+            for place in 0..length {
+                let unchanged = bytes[place];
+                for byte in 0..=u8::MAX {
+                    bytes[place] = byte;
+                    each(&bytes);
+                }
+                bytes[place] = unchanged;
             }
         }
     }

@@ -1,4 +1,4 @@
-//! The test for UTF-8 on valid texts of four scripts and four lengths.
+//! The test for UTF-8 on valid texts of each script, short and long.
 
 use super::measure;
 use crate::inputs::texts::{Script, text};
@@ -8,8 +8,8 @@ use std::str::from_utf8;
 
 pub fn testing(seed: u64) {
     let mut random = Random::new(seed);
-    for script in [Script::Ascii, Script::Latin, Script::Cyrillic, Script::Cjk] {
-        for length in [32, 256, 4096, 65536] {
+    for script in Script::ALL {
+        for length in [8, 20, 32, 100, 256, 4096, 65536] {
             let text = text(&mut random, script, length);
             let bytes = text.as_bytes();
             assert_eq!(port::rlc2_is_utf8(bytes), 1);

@@ -6,10 +6,10 @@ use Prim.Native.Nat.{ℕ, _+_, _≤_, _<_}
 use native.Mathlib.Omega.{arith}
 use lib.Dec.{leb}
 use lib.ListN.{length, getD}
-use Rattle.utf8.specs.Utf8.{isTwo, isThree, charAt}
+use Rattle.utf8.specs.Utf8.{isTwo, isThree, isFour, charAt}
 use Rattle.utf8.specs.Pairs.{beginsShort, Follows, wholeEnd}
 use Rattle.utf8.specs.Skips.{Ascii, Skips}
-use Rattle.utf8.specs.Laws.Utf8.{utf8-ascii, utf8-run, utf8-two, utf8-three, utf8-step, char-fits}
+use Rattle.utf8.specs.Laws.Utf8.{utf8-ascii, utf8-run, utf8-two, utf8-three, utf8-four, utf8-step, char-fits}
 use Rattle.utf8.specs.Laws.Pairs.{utf8-pairs}
 
 pub skips-on : {s : List ℕ} {h i j : ℕ} → Skips s h i → Skips s i j → Skips s h j
@@ -34,6 +34,9 @@ module _ (s : List ℕ) (i : ℕ) where
 
   pub skips-three : i + 3 ≤ length s → isThree (getD s i 0) (getD s (i + 1) 0) (getD s (i + 2) 0) ≡ true → Skips s i (i + 3)
   skips-three h e = record { up = omega arith; inside = h; same = utf8-three s i (omega arith) e }
+
+  pub skips-four : i + 4 ≤ length s → isFour (getD s i 0) (getD s (i + 1) 0) (getD s (i + 2) 0) (getD s (i + 3) 0) ≡ true → Skips s i (i + 4)
+  skips-four h e = record { up = omega arith; inside = h; same = utf8-four s i (omega arith) e }
 
   pub skips-char : (w : ℕ) → i < length s → charAt s i ≡ w → (w ≡ 0 → ⊥) → Skips s i (i + w)
   skips-char w h e n = record { up = omega arith; inside = omega (arith, char-fits s i h); same = utf8-step s i h w e n }

@@ -210,6 +210,26 @@ fn skip_three(s: &[u8], from: usize) -> usize
     i
 }
 
+// Past characters of four bytes.
+fn skip_four(s: &[u8], from: usize) -> usize
+    requires { ⌜ from ≤ length (now s) ⌝ }
+    ensures { λ r. ⌜ Skips (now (s .entry)) from r ⌝ }
+{
+    let mut i = from;
+    while 4 <= s.len() - i {
+        let a = s[i];
+        if a < 0xF0 {
+            return i;
+        }
+        if four(a, s[i + 1], s[i + 2], s[i + 3]) {
+            i += 4;
+        } else {
+            return i;
+        }
+    }
+    i
+}
+
 // Past more characters of w bytes, since a script's characters come in runs.
 fn skip_run(s: &[u8], from: usize, w: usize) -> usize
     requires { ⌜ from ≤ length (now s) ⌝ }
@@ -220,6 +240,9 @@ fn skip_run(s: &[u8], from: usize, w: usize) -> usize
     }
     if w == 3 {
         return skip_three(s, from);
+    }
+    if w == 4 {
+        return skip_four(s, from);
     }
     from
 }
@@ -285,12 +308,15 @@ fn skip_pairs(s: &[u8], from: usize) -> usize
     whole_end(s, i)
 }
 
-// Past the characters at the front: ASCII by blocks and then pairs, or words where s is too short for these.
+// Past characters at the front: ASCII by blocks and then pairs, or ASCII alone where s is too short for these.
 fn skip_front(s: &[u8]) -> usize
     ensures { λ r. ⌜ Skips (now (s .entry)) 0 r ⌝ }
 {
     if s.len() < 17 {
-        return skip_words(s, 0);
+        if byte_at(s, 0) < 0x80 {
+            return skip_ascii(s, 0);
+        }
+        return 0;
     }
     skip_pairs(s, skip_blocks(s, 0))
 }

@@ -76,6 +76,9 @@ module _ (a b c d : ℕ) where
   unfolding charOf
   char-four h t e = simp (past-one (omega arith), past-two (omega arith), past-three h, e)
 
+  pub char-is-four : isFour a b c d ≡ true → charOf a b c d ≡ 4
+  char-is-four e = ⊎-elim (λ h. char-four h true e) (λ l. absurd (true≢false (sym e ∙ before-four l))) (le-or-lt 0xF0 a)
+
   -- UTF8-3 and UTF8-4 by their first byte
   pub three-E0 : a ≡ 0xE0 → within 0xA0 0xBF b && isTail c ≡ isThree a b c
   unfolding isThree
@@ -164,6 +167,9 @@ module _ (s : List ℕ) (i : ℕ) (h : i < length s) where
 
   pub utf8-three : isThree (getD s i 0) (getD s (i + 1) 0) (getD s (i + 2) 0) ≡ true → isUtf8 (drop i s) ≡ isUtf8 (drop (i + 3) s)
   utf8-three e = step-suc 2 (char-is-three (getD s i 0) (getD s (i + 1) 0) (getD s (i + 2) 0) (getD s (i + 3) 0) e)
+
+  pub utf8-four : isFour (getD s i 0) (getD s (i + 1) 0) (getD s (i + 2) 0) (getD s (i + 3) 0) ≡ true → isUtf8 (drop i s) ≡ isUtf8 (drop (i + 4) s)
+  utf8-four e = step-suc 3 (char-is-four (getD s i 0) (getD s (i + 1) 0) (getD s (i + 2) 0) (getD s (i + 3) 0) e)
 
 pub utf8-end : (s : List ℕ) (i : ℕ) → length s ≤ i → isUtf8 (drop i s) ≡ true
 unfolding passes
