@@ -15,8 +15,8 @@ use Rattle.payload.specs.Rows.{rowWidth}
 use Rattle.payload.specs.Tables.{lineStarts, readAnswer, usedPool, usedRows, usedSpans, usedStarts}
 use Rattle.payload.specs.Trees.{LineIndex, Node}
 use Rattle.payload.specs.declared.Read.the-variants as read
-use Rattle.read_items.specs.Context.{PoolFits, contextOf}
-use Rattle.read_items.specs.Laws.Context.{length-partsOf, partsWords-partsOf}
+use Rattle.read_items.specs.Context.{PoolFits, contextOf, plainWords}
+use Rattle.read_items.specs.Laws.Context.{length-partsOf, length-plainWords, partsWords-partsOf}
 use Rattle.read_items.specs.Reads.{stateAt, stopped}
 use Rattle.read_lines.specs.LinesRead.{Accepted, InContext}
 use Rattle.read_lines.specs.declared.LineIndexAt.{LineIndexAt}
@@ -95,9 +95,9 @@ module _ (names : List ℕ) {limits : Capacities} {p pool rows rows₁ spans spa
     accepted-leaves {starts} room g a b c =
         rw (script-ok (context limits p names pool) (stateAt p at 0 0) (ran .is) (g .is .reads limits names refl .is (s .rows) (s .spans)))
         (record {
-          answer = cc (length-partsOf p pool);
+          answer = cc (length-partsOf p (plainWords pool), length-plainWords pool);
           rows-are = stored-cleared rows (rowsIn oneTree outer) (rowWidth * s .rows) (omega (arith, ran .size)) (omega (arith, ran .used, fit .room)) (ran .wrote) a;
           spans-are = stored-cleared spans (spansIn oneTree outer) (2 * s .spans) (omega (arith, ran .spanned)) (omega (arith, ran .covered, fit .cover)) (ran .filled) b;
           starts-are = stored-cleared starts (lineStarts (g .line)) _ (g .each) (omega (arith, g .fits)) (g .stored) c;
-          strings-are = partsWords-partsOf p pool (length pool / 2) whole inside;
+          strings-are = partsWords-partsOf p (plainWords pool) (length pool / 2) (length-plainWords pool ∙ whole) inside;
         })

@@ -43,7 +43,8 @@ read-script-requires c κs =
     let room = strings-fit _ _ _ _ limits in
     let n = count .0 .0 in
     let e : 2 * n - 0 ≡ 2 * n = omega arith in
-    (tables-fit _ _ _ _ limits (read .inside), (starts-fit _ _ _ _ limits, (pool-whole read room _ e, pool-inside read room _ e)))
+    let small = c .before .before .before .before .before .before .before .before .before .before .before .before .before .if1 .left in
+    (tables-fit _ _ _ _ limits (read .inside), (starts-fit _ _ _ _ limits, (pool-whole read room _ e, pool-inside read room _ e small)))
 
 returns-2 : tie.Need-returns-2
 returns-2 c =
