@@ -1,7 +1,7 @@
 -- What is read after the pool, from its two parts: the outer chunk and the line index.
 use mathlib.Core.List.{List}
 use mathlib.Core.Option.{Option}
-use mathlib.Core.Path.{_≡_, refl, sym, _∙_}
+use mathlib.Core.Path.{_≡_, refl, sym, ap, _∙_}
 use Prim.Native.Nat.{ℕ, _*_, _/_, _≤_}
 use native.Mathlib.Omega.{arith}
 use lib.ListN.{length}
@@ -14,9 +14,10 @@ use Rattle.payload.specs.Reading.{Context, Payload, readChunk, readLineIndex}
 use Rattle.payload.specs.Rows.{rowWidth}
 use Rattle.payload.specs.Tables.{lineStarts, readAnswer, usedPool, usedRows, usedSpans, usedStarts}
 use Rattle.payload.specs.Trees.{LineIndex, Node}
+use Rattle.payload.specs.declared.Read.{Read}
 use Rattle.payload.specs.declared.Read.the-variants as read
 use Rattle.read_items.specs.Context.{PoolFits, contextOf, plainWords}
-use Rattle.read_items.specs.Laws.Context.{length-partsOf, length-plainWords, partsWords-partsOf}
+use Rattle.read_items.specs.Laws.Context.{length-partsOf, length-plainWords, partsWords-partsOf, same-context}
 use Rattle.read_items.specs.Reads.{stateAt, stopped}
 use Rattle.read_lines.specs.LinesRead.{Accepted, InContext}
 use Rattle.read_lines.specs.declared.LineIndexAt.{LineIndexAt}
@@ -24,7 +25,7 @@ use Rattle.read_values.specs.State.{startAt}
 use Rattle.read_values.specs.Did.{Fit, Ran, context, oneTree, rowsIn, spansIn}
 use Rattle.payload.specs.declared.Capacities.{Capacities}
 use Rattle.read_values.specs.declared.State.{State}
-use Rattle.deserialize.specs.Script.{ScriptLeaves, readScript}
+use Rattle.deserialize.specs.Script.{ScriptLeaves, poolUsed, readScript}
 
 ---- the definition's steps
 
@@ -101,3 +102,19 @@ module _ (names : List ℕ) {limits : Capacities} {p pool rows rows₁ spans spa
           starts-are = stored-cleared starts (lineStarts (g .line)) _ (g .each) (omega (arith, g .fits)) (g .stored) c;
           strings-are = partsWords-partsOf p (plainWords pool) (length pool / 2) (length-plainWords pool ∙ whole) inside;
         })
+
+---- hints
+
+-- they make no difference
+pub same-leaves : (limits : Capacities) (p names a b : List ℕ) (at : ℕ) {rows spans starts rows′ spans′ starts′ : List ℕ} {r : Read} → plainWords a ≡ plainWords b
+    → ScriptLeaves (readScript (context limits p names a) (stateAt p at 0 0)) a rows spans starts rows′ spans′ starts′ r
+    → ScriptLeaves (readScript (context limits p names b) (stateAt p at 0 0)) b rows spans starts rows′ spans′ starts′ r
+same-leaves limits p names a b at {r = r} e f =
+    let g = rw (same-context limits p names a b e) at f in
+    record {
+      answer = g .answer;
+      rows-are = g .rows-are;
+      spans-are = g .spans-are;
+      starts-are = g .starts-are;
+      strings-are = g .strings-are ∙ ap (λ (l : List ℕ). poolUsed r l) e;
+    }

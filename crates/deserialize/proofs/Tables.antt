@@ -6,6 +6,7 @@ use native.Mathlib.Omega.{arith}
 use lib.ListN.{length, take}
 use lib.Seq.{length-take-le}
 use borrow.Author.Tests.{le-ltb, lt-ltb}
+use borrow.Rule.Slice.PartMut.{midOf, put-same, putMid}
 use Rattle.payload.specs.Choice.{if_then_else_}
 use Rattle.payload.specs.Reader.{Result, andThen, refused, start, _>>=_}
 use Rattle.payload.specs.Reading.{Payload, readPayload, readPool}
@@ -68,6 +69,10 @@ module _ {p pool pool′ : List ℕ} {most n next : ℕ} (a : Accepted p pool po
 
       pub pool-inside : PoolFits p (take m pool′)
       pool-inside = rw pool-plain (rw e (a .strings-inside))
+
+-- the strings come back as they were lent
+pub pool-back : (pool : List ℕ) (m : ℕ) {strings : List ℕ} → strings ≡ midOf 0 m pool → putMid 0 m pool strings ≡ pool
+pool-back pool m e = ap (λ (l : List ℕ). putMid 0 m pool l) e ∙ put-same 0 m pool
 
 ---- the definition's steps
 
