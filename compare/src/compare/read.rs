@@ -3,6 +3,7 @@
 use super::domain::{COUNT_LIMIT, is_compared, natives, rust_read, rust_write};
 use crate::document::{self, BYTE_LIMIT, Loan, ROW_LIMIT, Reading, START_LIMIT, STRING_LIMIT};
 use crate::inputs::loans;
+use crate::inputs::natives::natives as many_natives;
 use crate::inputs::payloads::{Style, damaged, every_short, payload};
 use crate::inputs::pools;
 use crate::inputs::programs::{self, Draw, NAME_LISTS};
@@ -13,13 +14,14 @@ use original::native::Module;
 
 /// So many programs are drawn by each thread; each gives several payloads.
 const PROGRAMS: usize = 450_000;
+const LONG_LISTS: usize = 2_000;
 const LOOSE_COPIES: usize = 3;
 const DAMAGED_COPIES: usize = 6;
 
 /// So many programs with a large pool of each size.
 const LARGE_POOLS: usize = 20;
 
-/// Every short payload, then random programs in and beside the writer's form and damaged copies of them.
+/// Every short payload, then random programs in and beside the writer's form and damaged copies of them, large pools, then natives of long lists.
 pub fn payloads(seed: u64, half: u64) -> Vec<Tally> {
     let mut short = Comparison::new("every short payload", 2 * seed + half);
     let mut number = 0;
@@ -41,7 +43,11 @@ pub fn payloads(seed: u64, half: u64) -> Vec<Tally> {
         drawn.compare_largest_pool();
         drawn.compare_limits();
     }
-    [short, drawn]
+    let mut listed = Comparison::new("natives of long lists", 2 * seed + half);
+    for _ in 0..LONG_LISTS {
+        listed.compare_natives();
+    }
+    [short, drawn, listed]
         .into_iter()
         .flat_map(|comparison| [comparison.against_rust, comparison.against_document])
         .collect()
@@ -88,10 +94,23 @@ impl Comparison {
         copies.swap_remove(0)
     }
 
-    /// A payload with tables that are large enough, and with small ones.
+    /// Natives with a list of their own, whose module stands behind the others for so long.
+    fn compare_natives(&mut self) {
+        let input = many_natives(&mut self.random);
+        let list = self.natives.len();
+        let names = input.names.iter().map(String::as_str);
+        self.natives.push(Module::of_names(names));
+        self.compare_listed(&input.payload, list, &input.list, COUNT_LIMIT);
+        self.natives.truncate(list);
+    }
+
     fn compare(&mut self, payload: &[u8], count_limit: u64) {
         let list = self.random.below(NAME_LISTS.len());
-        let names = NAME_LISTS[list].0;
+        self.compare_listed(payload, list, NAME_LISTS[list].0, count_limit);
+    }
+
+    /// A payload with tables that are large enough, and with small ones.
+    fn compare_listed(&mut self, payload: &[u8], list: usize, names: &[u8], count_limit: u64) {
         let loan = loans::ample(&mut self.random, payload.len());
         let reading = document::read(payload, names, loan);
         let compared = is_compared(&reading, count_limit);

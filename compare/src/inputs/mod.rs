@@ -3,6 +3,7 @@
 pub mod lines;
 pub mod loads;
 pub mod loans;
+pub mod natives;
 pub mod numbers;
 pub mod payloads;
 pub mod pools;

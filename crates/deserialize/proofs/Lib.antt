@@ -1,2 +1,3 @@
+pub mod PlainWords
 pub mod Script
 pub mod Tables

@@ -1,7 +1,7 @@
 -- What is read after the pool, from its two parts: the outer chunk and the line index.
 use mathlib.Core.List.{List}
 use mathlib.Core.Option.{Option}
-use mathlib.Core.Path.{_≡_, refl, sym, _∙_}
+use mathlib.Core.Path.{_≡_, refl, sym, ap, _∙_}
 use Prim.Native.Nat.{ℕ, _*_, _/_, _≤_}
 use native.Mathlib.Omega.{arith}
 use lib.ListN.{length}
@@ -14,9 +14,10 @@ use Rattle.payload.specs.Reading.{Context, Payload, readChunk, readLineIndex}
 use Rattle.payload.specs.Rows.{rowWidth}
 use Rattle.payload.specs.Tables.{lineStarts, readAnswer, usedPool, usedRows, usedSpans, usedStarts}
 use Rattle.payload.specs.Trees.{LineIndex, Node}
+use Rattle.payload.specs.declared.Read.{Read}
 use Rattle.payload.specs.declared.Read.the-variants as read
-use Rattle.read_items.specs.Context.{PoolFits, contextOf}
-use Rattle.read_items.specs.Laws.Context.{length-partsOf, partsWords-partsOf}
+use Rattle.read_items.specs.Context.{PoolFits, contextOf, plainWords}
+use Rattle.read_items.specs.Laws.Context.{length-partsOf, length-plainWords, partsWords-partsOf, same-context}
 use Rattle.read_items.specs.Reads.{stateAt, stopped}
 use Rattle.read_lines.specs.LinesRead.{Accepted, InContext}
 use Rattle.read_lines.specs.declared.LineIndexAt.{LineIndexAt}
@@ -24,7 +25,7 @@ use Rattle.read_values.specs.State.{startAt}
 use Rattle.read_values.specs.Did.{Fit, Ran, context, oneTree, rowsIn, spansIn}
 use Rattle.payload.specs.declared.Capacities.{Capacities}
 use Rattle.read_values.specs.declared.State.{State}
-use Rattle.deserialize.specs.Script.{ScriptLeaves, readScript}
+use Rattle.deserialize.specs.Script.{ScriptLeaves, poolUsed, readScript}
 
 ---- the definition's steps
 
@@ -95,9 +96,25 @@ module _ (names : List ℕ) {capacities : Capacities} {p pool rows rows₁ spans
     accepted-leaves {starts} room g a b c =
         rw (script-ok (context capacities p names pool) (stateAt p at 0 0) (ran .is) (g .is .reads capacities names refl .is (s .rows) (s .spans)))
         (record {
-          answer = cc (length-partsOf p pool);
+          answer = cc (length-partsOf p (plainWords pool), length-plainWords pool);
           rows-are = stored-cleared rows (rowsIn oneTree outer) (rowWidth * s .rows) (omega (arith, ran .size)) (omega (arith, ran .used, fit .room)) (ran .wrote) a;
           spans-are = stored-cleared spans (spansIn oneTree outer) (2 * s .spans) (omega (arith, ran .spanned)) (omega (arith, ran .covered, fit .cover)) (ran .filled) b;
           starts-are = stored-cleared starts (lineStarts (g .line)) _ (g .each) (omega (arith, g .fits)) (g .stored) c;
-          strings-are = partsWords-partsOf p pool (length pool / 2) whole inside;
+          strings-are = partsWords-partsOf p (plainWords pool) (length pool / 2) (length-plainWords pool ∙ whole) inside;
         })
+
+---- hints
+
+-- they make no difference
+pub same-leaves : (capacities : Capacities) (p names a b : List ℕ) (at : ℕ) {rows spans starts rows′ spans′ starts′ : List ℕ} {r : Read} → plainWords a ≡ plainWords b
+    → ScriptLeaves (readScript (context capacities p names a) (stateAt p at 0 0)) a rows spans starts rows′ spans′ starts′ r
+    → ScriptLeaves (readScript (context capacities p names b) (stateAt p at 0 0)) b rows spans starts rows′ spans′ starts′ r
+same-leaves capacities p names a b at {r = r} e f =
+    let g = rw (same-context capacities p names a b e) at f in
+    record {
+      answer = g .answer;
+      rows-are = g .rows-are;
+      spans-are = g .spans-are;
+      starts-are = g .starts-are;
+      strings-are = g .strings-are ∙ ap (λ (l : List ℕ). poolUsed r l) e;
+    }

@@ -7,6 +7,7 @@ use lib.ListN.{length, take}
 use lib.Seq.{length-take-le}
 use borrow.Author.Tests.{le-ltb, lt-ltb}
 use Rattle.payload.specs.Answers.{readFields}
+use borrow.Rule.Slice.PartMut.{midOf, put-same, putMid}
 use Rattle.payload.specs.Choice.{if_then_else_}
 use Rattle.payload.specs.Laws.Contracts.{fields-are}
 use Rattle.payload.specs.Reader.{Result, andThen, refused, start, _>>=_}
@@ -19,7 +20,8 @@ use Rattle.slices.specs.Zeros.{padTo, zeroFrom, zeros}
 use Rattle.slices.specs.Laws.LittleEndian.{Bytes}
 use Rattle.slices.specs.Laws.Put.{length-put}
 use Rattle.slices.specs.Laws.Zeros.{padTo-nil, zeroFrom-padTo}
-use Rattle.read_items.specs.Context.{PoolFits, contextOf}
+use Rattle.read_items.specs.Context.{PoolFits, contextOf, plainWords}
+use Rattle.read_items.specs.Laws.Context.{words-plain}
 use Rattle.read_items.specs.Reads.{stateAt}
 use Rattle.read_pool.specs.PoolRead.{Accepted}
 use Rattle.read_values.specs.State.{startAt}
@@ -63,8 +65,16 @@ module _ {p pool pool′ : List ℕ} {most n next : ℕ} (a : Accepted p pool po
     pub pool-whole : length (take m pool′) ≡ 2 * (length (take m pool′) / 2)
     pool-whole = let l = length-take-le m pool′ (omega (arith, pool-room)) in omega arith
 
-    pub pool-inside : PoolFits p (take m pool′)
-    pool-inside = rw e (a .strings-inside)
+    module _ (small : length p ≤ sizeLimit) where
+      pub pool-plain : plainWords (take m pool′) ≡ take m pool′
+      pool-plain = words-plain p (take m pool′) n (omega arith) (length-take-le m pool′ (omega (arith, pool-room)) ∙ e) (rw e (a .strings-inside))
+
+      pub pool-inside : PoolFits p (take m pool′)
+      pool-inside = rw pool-plain (rw e (a .strings-inside))
+
+-- the strings come back as they were lent
+pub pool-back : (pool : List ℕ) (m : ℕ) {strings : List ℕ} → strings ≡ midOf 0 m pool → putMid 0 m pool strings ≡ pool
+pool-back pool m e = ap (λ (l : List ℕ). putMid 0 m pool l) e ∙ put-same 0 m pool
 
 ---- the definition's steps
 
@@ -77,27 +87,26 @@ module _ (c : Capacities) (names p : List ℕ) (h : length p ≤ sizeLimit) wher
   unfolding reading if_then_else_ readPayload _>>=_ andThen
   no-pool-read e = rw (le-ltb sizeLimit (length p) h, e)
 
-  script-after-pool : {pool pool′ : List ℕ} {n next : ℕ} → Accepted p pool pool′ (c .strings) n next
-      → reading c names p ≡ readScript (contextOf c p names (take (2 * n) pool′)) (stateAt p next 0 0)
-  unfolding reading if_then_else_ readPayload readScript contextOf _>>=_ andThen
-  script-after-pool a = rw (le-ltb sizeLimit (length p) h, a .is, a .strings)
-
   -- the pool table was lent up to its used words
   module _ {pool pool₁ : List ℕ} {n next : ℕ} (room : 2 * c .strings ≤ length pool) (a : Accepted p pool pool₁ (c .strings) n next) (m : ℕ) (e : m ≡ 2 * n) where
+    script-after-pool : reading c names p ≡ readScript (contextOf c p names (take m pool₁)) (stateAt p next 0 0)
+    unfolding reading if_then_else_ readPayload readScript contextOf _>>=_ andThen
+    script-after-pool =
+        let strings = rw (← e) at (a .strings) in
+        rw (pool-plain a room m e h, le-ltb sizeLimit (length p) h, a .is, strings)
+
     pub payload-leaves : Bytes p → {rows spans starts rows′ spans′ starts′ pool′ : List ℕ} {r : Read}
         → ScriptLeaves (readScript (contextOf c p names (take m pool₁)) (stateAt p next 0 0)) (take m pool₁) rows spans starts rows′ spans′ starts′ r
         → pool′ ≡ padTo (length pool) (poolUsed r (take m pool₁))
         → Leaves (reading c names p) rows spans starts pool rows′ spans′ starts′ pool′ r
-    payload-leaves bytes f z =
-        let g = rw e at f in
-        rw (script-after-pool a) (record {
-          answer = g .answer;
-          fields = ap readFields (g .answer) ∙ fields-are c names p bytes _ (script-after-pool a);
-          rows-are = g .rows-are;
-          spans-are = g .spans-are;
-          starts-are = g .starts-are;
-          pool-is = (rw e at z) ∙ ap (padTo (length pool)) (sym (g .strings-are));
-        })
+    payload-leaves bytes f z = rw script-after-pool (record {
+      answer = f .answer;
+      fields = ap readFields (f .answer) ∙ fields-are c names p bytes _ script-after-pool;
+      rows-are = f .rows-are;
+      spans-are = f .spans-are;
+      starts-are = f .starts-are;
+      pool-is = z ∙ ap (padTo (length pool)) (sym (rw (pool-plain a room m e h) at (f .strings-are)));
+    })
 
     -- behind the strings
     pub pool-padded : {pool′ : List ℕ} → pool′ ≡ zeroFrom (2 * n) pool₁ → pool′ ≡ padTo (length pool) (take m pool₁)

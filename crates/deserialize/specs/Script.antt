@@ -9,6 +9,7 @@ use Rattle.payload.specs.Reading.{Context, Payload, readChunk, readLineIndex}
 use Rattle.payload.specs.Tables.{readAnswer, usedPool, usedRows, usedSpans, usedStarts}
 use Rattle.payload.specs.declared.Read.{Read}
 use Rattle.payload.specs.declared.Read.the-variants.{Accepted, Refused}
+use Rattle.read_items.specs.Context.{plainWords}
 
 -- what is read after the pool
 unfoldable pub readScript : Context → Reader Payload
@@ -19,10 +20,10 @@ abbrev pub poolUsed : Read → List ℕ → List ℕ
 poolUsed (Accepted counts) pool = pool
 poolUsed (Refused n q) pool = []
 
--- r is the answer of x, and each table has the words of x and zeros behind them; x has the strings of the pool table
+-- r is the answer of x, and each table has the words of x and zeros behind them; x has the strings of the pool table, whatever hints it has
 pub record ScriptLeaves (x : Result Payload) (pool rows spans starts rows′ spans′ starts′ : List ℕ) (r : Read) : Type 0 where
   pub answer : r ≡ readAnswer x
   pub rows-are : rows′ ≡ padTo (length rows) (usedRows x)
   pub spans-are : spans′ ≡ padTo (length spans) (usedSpans x)
   pub starts-are : starts′ ≡ padTo (length starts) (usedStarts x)
-  pub strings-are : usedPool x ≡ poolUsed r pool
+  pub strings-are : usedPool x ≡ poolUsed r (plainWords pool)

@@ -4,11 +4,14 @@ ghost use Prim.Native.Nat.{_*_, _/_, _≤_};
 ghost use lib.ListN.{length};
 ghost use Rattle.slices.specs.Zeros.{zeros};
 ghost use Rattle.payload.specs.Tables.{Leaves, capacitiesOf, reading};
-ghost use Rattle.read_items.specs.Context.{PoolFits};
+ghost use Rattle.read_items.specs.Context.{PoolFits, plainWords};
 ghost use Rattle.read_items.specs.Reads.{stateAt};
 ghost use Rattle.read_values.specs.Did.{Fit, context};
 ghost use Rattle.read_values.specs.State.{startAt};
 ghost use Rattle.deserialize.specs.Script.{ScriptLeaves, readScript};
+
+mod hints;
+
 use payload::Capacities;
 use payload::Counts;
 use payload::Program;
@@ -81,6 +84,34 @@ fn read_script(
     }
 }
 
+// The same with hints in the pool table while it is read, where they are worth their cost.
+fn read_hinted(
+    bytes: &[u8],
+    names: &[u8],
+    pool: &mut [u64],
+    rows: &mut [u64],
+    spans: &mut [u64],
+    starts: &mut [u32],
+    capacities: Capacities,
+    at: usize,
+) -> Read
+    requires { ⌜ Fit capacities (now bytes) (now rows) (now spans) (startAt at) ⌝ }
+    requires { ⌜ capacities .starts ≤ length (now starts) ⌝ }
+    requires { ⌜ (length (now pool) ≡ 2 * (length (now pool) / 2)) × PoolFits (now bytes) (now pool) ⌝ }
+    requires { ⌜ plainWords (now pool) ≡ now pool ⌝ }
+    ensures { λ r. ⌜ ScriptLeaves (readScript (context capacities (now (bytes .entry)) (now (names .entry)) (now (pool .entry))) (stateAt (now (bytes .entry)) at 0 0))
+        (now (pool .entry)) (now (rows .entry)) (now (spans .entry)) (now (starts .entry)) (now (rows .exit)) (now (spans .exit)) (now (starts .exit)) r ⌝ }
+    ensures { λ _. ⌜ now (pool .exit) ≡ now (pool .entry) ⌝ }
+{
+    if hints::pay(names, bytes, pool, at) {
+        hints::add(names, bytes, pool);
+        let read = read_script(bytes, names, pool, rows, spans, starts, capacities, at);
+        hints::take_away(pool);
+        return read;
+    }
+    read_script(bytes, names, pool, rows, spans, starts, capacities, at)
+}
+
 // Reads a payload: rows, spans, starts and pool strings go into the lent tables, with zeros behind them; a refusal leaves zeros alone.
 pub fn deserialize_payload(
     bytes: &[u8],
@@ -104,8 +135,8 @@ pub fn deserialize_payload(
         PoolAt::Pool(count, next) => {
             let first: usize = 0;
             let end = 2 * count;
-            let strings = &pool[first..end];
-            match read_script(bytes, names, strings, rows, spans, starts, capacities, next) {
+            let strings = &mut pool[first..end];
+            match read_hinted(bytes, names, strings, rows, spans, starts, capacities, next) {
                 Read::Accepted(counts) => {
                     slices::zero_u64_from(pool, end);
                     Read::Accepted(counts)

@@ -1,6 +1,6 @@
 // Native names: whether a string is a name of the list. A name of n bytes ends at a 0A that stands n + 1 bytes after another, or after the list's begin.
 // So whole blocks of the list are passed by a test that compiles to vectors, and only where it holds is a string compared.
-ghost use mathlib.Core.Bool.{false};
+ghost use mathlib.Core.Bool.{true, false};
 ghost use mathlib.Core.Path.{_≡_};
 ghost use Prim.Native.Nat.{ℕ, _+_, _-_, _≤_, _<_};
 ghost use lib.ListN.{getD, length, take, drop};
@@ -104,8 +104,23 @@ fn ends_in_block(names: &[u8], i: usize, last: u8, bytes: &[u8], o: usize, n: us
     ends_between(names, i, i + 32, bytes, o, n)
 }
 
-// Whether the string at `o` is a name of the list.
-pub fn is_listed(names: &[u8], bytes: &[u8], o: u64, n: u64) -> bool
+// A true says that the string at `o` is a name that ends at the hint, which is any number.
+fn ends_at_hint(names: &[u8], hint: u64, bytes: &[u8], o: usize, n: usize) -> bool
+    requires { ⌜ o + n ≤ length (now bytes) ⌝ }
+    ensures { λ r. ⌜ (r ≡ true → (hint < length (now (names .entry))) × NameEnds (now (names .entry)) (take n (drop o (now (bytes .entry)))) n hint) ⌝ }
+{
+    let i = hint as usize;
+    if i < n {
+        return false;
+    }
+    if names.len() <= i {
+        return false;
+    }
+    ends_at(names, i, bytes, o, n)
+}
+
+// Whether the string at `o` is a name of the list. The hint is where its name may end: it is looked at first, and nothing is known of it.
+pub fn is_listed(names: &[u8], bytes: &[u8], o: u64, n: u64, hint: u64) -> bool
     requires { ⌜ o + n ≤ length (now bytes) ⌝ }
     ensures { λ r. ⌜ r ≡ isListed (now (names .entry)) (take n (drop o (now (bytes .entry)))) ⌝ }
 {
@@ -113,6 +128,9 @@ pub fn is_listed(names: &[u8], bytes: &[u8], o: u64, n: u64) -> bool
     let size = n as usize;
     if names.len() <= size {
         return false;
+    }
+    if ends_at_hint(names, hint, bytes, offset, size) {
+        return true;
     }
     if ends_at(names, size, bytes, offset, size) {
         return true;

@@ -11,6 +11,7 @@ ghost use Rattle.read_heads.specs.Heads.{ReadsHead, numberHead, countHea
 ghost use Rattle.read_heads.specs.Scalars.{FitsScalar};
 ghost use Rattle.read_heads.specs.declared.Head.the-variants.{Row};
 use read_items::Cut;
+use read_items::HINT_BASE;
 use read_items::Number;
 use read_items::PartAt;
 use read_items::items;
@@ -162,14 +163,18 @@ fn part_head(count: u64, part: PartAt) -> Head
     }
 }
 
-// A native's name, which must be in the list.
+// A native's name, which must be in the list. Its entry's first word may have a hint where it ends there.
 fn read_native_head(bytes: &[u8], names: &[u8], pool: &[u64], at: usize) -> Head
     requires { ⌜ PoolFits (now bytes) (now pool) ⌝ }
     ensures { λ r. ⌜ ReadsHead (now (bytes .entry)) (now (names .entry)) (now (pool .entry)) at (shapeOf Class.Native) r ⌝ }
 {
-    match items::read_pool_index(bytes, pool, at) {
-        PartAt::Part(o, n, next) => {
-            if native_names::is_listed(names, bytes, o, n) {
+    match items::read_index(bytes, pool, at) {
+        Number::Read(i, next) => {
+            let k = 2 * i as usize;
+            let word = pool[k];
+            let o = word % HINT_BASE;
+            let n = pool[k + 1] % HINT_BASE;
+            if native_names::is_listed(names, bytes, o, n, word / HINT_BASE) {
                 return Head::Row {
                     a: o,
                     b: n,
@@ -181,7 +186,7 @@ fn read_native_head(bytes: &[u8], names: &[u8], pool: &[u64], at: usize) -> Head
             }
             Head::Refused(14, at)
         }
-        PartAt::Refused(n, q) => Head::Refused(n, q),
+        Number::Refused(n, q) => Head::Refused(n, q),
     }
 }
 

@@ -1,8 +1,9 @@
-// The items that stand all over a payload: a varint, a byte, and a string by its pool index.
+// The items that stand all over a payload: a varint, a byte, a pool index, and the string that it names.
 ghost use Rattle.payload.specs.Reader.{byte};
 ghost use Rattle.payload.specs.Numbers.{varint};
 ghost use Rattle.read_items.specs.Reads.{Reads, numberAnswer};
-ghost use Rattle.read_items.specs.Context.{PoolFits, ReadsPart};
+ghost use Rattle.read_items.specs.Context.{PoolFits, ReadsIndex, ReadsPart};
+use crate::HINT_BASE;
 use crate::Number;
 use crate::PartAt;
 use varint::Varint;
@@ -25,18 +26,31 @@ pub fn read_byte(bytes: &[u8], at: usize) -> Number
     Number::Refused(1, at)
 }
 
-// The string that a pool index names. The index is cut to 32 bits, and then tested.
+// A pool index: the number of an entry. It is cut to 32 bits, and then tested.
+pub fn read_index(bytes: &[u8], pool: &[u64], at: usize) -> Number
+    ensures { λ r. ⌜ ReadsIndex (now (bytes .entry)) (now (pool .entry)) at r ⌝ }
+{
+    match read_uvarint(bytes, at) {
+        Number::Read(v, next) => {
+            let i = v % 0x1_0000_0000;
+            if i < (pool.len() / 2) as u64 {
+                return Number::Read(i, next);
+            }
+            Number::Refused(4, at)
+        }
+        Number::Refused(n, q) => Number::Refused(n, q),
+    }
+}
+
+// The string that a pool index names.
 pub fn read_pool_index(bytes: &[u8], pool: &[u64], at: usize) -> PartAt
     requires { ⌜ PoolFits (now bytes) (now pool) ⌝ }
     ensures { λ r. ⌜ ReadsPart (now (bytes .entry)) (now (pool .entry)) at r ⌝ }
 {
-    match read_uvarint(bytes, at) {
-        Number::Read(v, next) => {
-            let i = (v % 0x1_0000_0000) as usize;
-            if i < pool.len() / 2 {
-                return PartAt::Part(pool[2 * i], pool[2 * i + 1], next);
-            }
-            PartAt::Refused(4, at)
+    match read_index(bytes, pool, at) {
+        Number::Read(i, next) => {
+            let k = 2 * i as usize;
+            PartAt::Part(pool[k] % HINT_BASE, pool[k + 1] % HINT_BASE, next)
         }
         Number::Refused(n, q) => PartAt::Refused(n, q),
     }

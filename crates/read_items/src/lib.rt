@@ -15,6 +15,10 @@ pub enum PositionAt {
     Refused(u64, usize),
 }
 
+// The words of a pool table are offsets and lengths below this base. What stands above it, while a payload is read, is a hint where a native's name may stand in the list:
+// no answer rests on it.
+pub const HINT_BASE: u64 = 0x200_0000;
+
 // A string's offset and length and the place after its pool index, or a refusal's number and place.
 pub enum PartAt {
     Part(u64, u64, usize),

@@ -9,7 +9,7 @@ use Rattle.payload.specs.Reader.{Part, start, ok, refused}
 use Rattle.payload.specs.Reading.{readPool}
 use Rattle.payload.specs.Tables.{partsWords}
 use Rattle.read_items.specs.Reads.{stateAt}
-use Rattle.read_items.specs.Context.{partsOf, PoolFits}
+use Rattle.read_items.specs.Context.{partsOf, PartsFit}
 use Rattle.read_pool.specs.declared.PoolAt.{PoolAt}
 use Rattle.read_pool.specs.declared.PoolAt.the-variants.{Pool, Refused}
 
@@ -23,7 +23,7 @@ pub record Accepted (p table table′ : List ℕ) (most n next : ℕ) : Type 0 w
   pub inside : next ≤ length p
   -- the words stored are a pool table, whose strings are those read
   pub strings : partsOf p (take (2 * n) table′) ≡ parts
-  pub strings-inside : PoolFits p (take (2 * n) table′)
+  pub strings-inside : PartsFit p (take (2 * n) table′)
 
 abbrev pub Outcome : List ℕ → List ℕ → List ℕ → ℕ → PoolAt → Type 0
 Outcome p table table′ most (Pool n next) = Accepted p table table′ most n next

@@ -8,7 +8,7 @@ use Rattle.payload.specs.Reader.{Part}
 use Rattle.payload.specs.Reading.{readStrings}
 use Rattle.payload.specs.Tables.{partsWords}
 use Rattle.read_items.specs.Reads.{Answer, read, stopped, Reads}
-use Rattle.read_items.specs.Context.{partOf, partsOf, PoolFits}
+use Rattle.read_items.specs.Context.{partOf, partsOf, PartsFit}
 use Rattle.read_pool.specs.declared.PoolAt.{PoolAt}
 use Rattle.read_pool.specs.declared.PoolAt.the-variants as pool-at
 use Rattle.read_pool.specs.declared.StringAt.{StringAt}
@@ -26,7 +26,7 @@ pub record Stored (p table table′ : List ℕ) (most count at n next : ℕ) : T
   pub fits : n ≤ most
   pub stored : table′ ≡ put table 0 (partsWords parts)
   pub strings : partsOf p (partsWords parts) ≡ parts
-  pub strings-inside : PoolFits p (partsWords parts)
+  pub strings-inside : PartsFit p (partsWords parts)
 
 abbrev pub StringsOutcome : List ℕ → List ℕ → List ℕ → ℕ → ℕ → ℕ → PoolAt → Type 0
 StringsOutcome p table table′ most count at (pool-at.Pool n next) = Stored p table table′ most count at n next

@@ -19,7 +19,7 @@ use Rattle.payload.specs.declared.Capacities.{Capacities}
 use Rattle.payload.specs.Rows.{countWords, itemWords, itemsWords, kidsCountWords, kindWidth, kindsWidth, partWords, rootCount, rowTable, rowWords, unusedWords}
 use Rattle.payload.specs.Shapes.{ItemKind, Shape, isKeyTag, keys, kindsOf, noValue, oneValue, pairs, shape, shapes, values, withChunk, withFields, withKids, withTemplate}
 use Rattle.payload.specs.Trees.{Node, forgetItem, forgetItems, itemValue, itemsValue, cons, keyOf, nil, nodeOf, number, single, string}
-use Rattle.read_items.specs.Context.{PoolFits, contextOf, partOf, partsOf}
+use Rattle.read_items.specs.Context.{PartsFit, PoolFits, contextOf, partOf, partsOf, plainWords}
 use Rattle.read_values.specs.Did.{Fit, context}
 use Rattle.read_values.specs.State.{stateOf}
 use Rattle.read_values.specs.Under.{chunkRow, fieldRow}
@@ -188,7 +188,7 @@ module _ (c : Capacities) (p : List ℕ) where
   part-stands o n h = let l : length (take n (drop o p)) ≡ n = simp (length-take, length-drop) (omega arith) in
       record { in-store = omega arith; its-bytes = ap (λ (k : ℕ). take k (drop o p)) l }
 
-  pool-stands : (pool : List ℕ) → PoolFits p pool → AllIn p (partsOf p pool)
+  pool-stands : (pool : List ℕ) → PartsFit p pool → AllIn p (partsOf p pool)
   unfolding partsOf AllIn
   pool-stands [] h = tt
   pool-stands (o ∷ []) h = tt
@@ -209,4 +209,4 @@ key-read capacities p names pool {now = now} f h d t z q k =
     let s = shaped (context capacities p names pool) d (stateOf p now) t z q in
     let g = shape-tag (context capacities p names pool) (s .value) (s .tag) (shape (s .tag)) (s .start) t z (s .is) in
     key-node capacities p (context capacities p names pool) (s .value) (s .tag) (shape (s .tag)) refl (key-shape (s .tag) (s .low) (rw g at k)) (s .start)
-    t z (s .is) (pool-stands capacities p pool h)
+    t z (s .is) (pool-stands capacities p (plainWords pool) h)

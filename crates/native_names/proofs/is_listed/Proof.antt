@@ -10,10 +10,10 @@ use Rattle.native_names.proofs.is_listed.Statement.{statement}
 use Rattle.native_names.proofs.is_listed.Tie as tie
 
 abbrev Inv-loop : tie.InvT-loop
-Inv-loop names bytes o n offset size last i₀ i = (n < i) × (i ≤ length names) × ((k : ℕ) → k < i → NameEnds names (take n (drop o bytes)) n k → ⊥)
+Inv-loop names bytes o n hint offset size last i₀ i = (n < i) × (i ≤ length names) × ((k : ℕ) → k < i → NameEnds names (take n (drop o bytes)) n k → ⊥)
 
 abbrev μ-loop : tie.MeasureT-loop
-μ-loop names bytes o n offset size last i₀ i = length names - i
+μ-loop names bytes o n hint offset size last i₀ i = length names - i
 
 returns : tie.Need-returns Inv-loop μ-loop
 returns c =
@@ -22,27 +22,32 @@ returns c =
 
 returns-2 : tie.Need-returns-2 Inv-loop μ-loop
 returns-2 c =
-    let args = c .before .before .before .before .before .args in
-    sym (listed-if _ _ _ (args .n) (omega arith) (c .before .ends-at .ensures .yes (c .if2 .taken)))
-
-loop-holds : tie.Need-loop-holds Inv-loop μ-loop
-loop-holds c =
-    let args = c .before .before .before .before .before .before .args in
-    let none = c .before .before .ends-at .ensures .no (c .before .if2 .left) in
-    (omega arith, omega arith, λ k h w. let e : k ≡ args .n = omega (arith, w .long) in none (rw e at w))
+    let hint = c .before .ends-at-hint .ensures (c .if2 .taken) in
+    sym (listed-if _ _ _ _ (hint .0) (hint .1))
 
 returns-3 : tie.Need-returns-3 Inv-loop μ-loop
 returns-3 c =
-    let w = c .before .ends-in-block .ensures .yes (c .if3 .taken) in
+    let args = c .before .before .before .before .before .before .before .args in
+    sym (listed-if _ _ _ (args .n) (omega arith) (c .before .ends-at .ensures .yes (c .if3 .taken)))
+
+loop-holds : tie.Need-loop-holds Inv-loop μ-loop
+loop-holds c =
+    let args = c .before .before .before .before .before .before .before .before .args in
+    let none = c .before .before .ends-at .ensures .no (c .before .if3 .left) in
+    (omega arith, omega arith, λ k h w. let e : k ≡ args .n = omega (arith, w .long) in none (rw e at w))
+
+returns-4 : tie.Need-returns-4 Inv-loop μ-loop
+returns-4 c =
+    let w = c .before .ends-in-block .ensures .yes (c .if4 .taken) in
     sym (listed-if _ _ _ (w .0) (omega (arith, w .2)) (w .3))
 
 loop-again : tie.Need-loop-again Inv-loop μ-loop
 loop-again c =
-    (omega arith, omega arith, range-join _ _ _ (c .before .before .before .loop .inv .2) (c .before .ends-in-block .ensures .no (c .if3 .left)))
+    (omega arith, omega arith, range-join _ _ _ (c .before .before .before .loop .inv .2) (c .before .ends-in-block .ensures .no (c .if4 .left)))
 
-returns-4 : tie.Need-returns-4 Inv-loop μ-loop
-returns-4 c =
-    let pre = c .before .before .before .before .before .before .before .before .before .pre in
+returns-5 : tie.Need-returns-5 Inv-loop μ-loop
+returns-5 c =
+    let pre = c .before .before .before .before .before .before .before .before .before .before .before .pre in
     listed-is _ _ _ _ _ (length-part _ _ _ pre) (c .before .before .loop .inv .2) (c .ends-between .ensures)
 
 pub is-listed-spec : {M : Type 1} → statement M
@@ -55,13 +60,15 @@ is-listed-spec =
     (λ c κs. search needs)
     returns-2
     (λ c κs. search needs)
+    returns-3
+    (λ c κs. search needs)
     (λ c. search needs)
     loop-holds
     (λ c. search needs)
     (λ c κs. search needs)
-    returns-3
+    returns-4
     (λ c. search needs)
     (λ c. search needs)
     loop-again
     (λ c κs. search needs)
-    returns-4)
+    returns-5)

@@ -11,7 +11,7 @@ use Rattle.payload.specs.Laws.Tables.{length-partsWords}
 use Rattle.payload.specs.Reader.{Part}
 use Rattle.payload.specs.Rows.{partWords}
 use Rattle.payload.specs.Tables.{partsWords}
-use Rattle.read_items.specs.Context.{partOf, partsOf, PoolFits}
+use Rattle.read_items.specs.Context.{partOf, partsOf, PartsFit}
 use Rattle.read_items.specs.Laws.Context.{length-part}
 
 pub partsWords-append : (a b : List Part) → partsWords (a ++ b) ≡ partsWords a ++ partsWords b
@@ -48,7 +48,7 @@ unfolding AllIn partsOf partsWords partWords
 strings-of-words p [] h = refl
 strings-of-words p (b ∷ bs) h = rw (h .0 .its-bytes, strings-of-words p bs (h .1))
 
-pub words-fit : (p : List ℕ) (bs : List Part) → AllIn p bs → PoolFits p (partsWords bs)
+pub words-fit : (p : List ℕ) (bs : List Part) → AllIn p bs → PartsFit p (partsWords bs)
 unfolding AllIn partsWords partWords
 words-fit p [] h i l = absurd (omega arith)
 words-fit p (b ∷ bs) h zero l = h .0 .in-store

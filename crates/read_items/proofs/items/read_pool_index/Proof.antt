@@ -1,36 +1,37 @@
--- `read_pool_index` meets its contract: the cut index is below the count of strings, is not, or no varint is read.
-use Prim.Native.Nat.{_%_, _^_}
+-- `read_pool_index` meets its contract: the entry of the index that was read, without hints, or no index is read.
 use native.Mathlib.Omega.{arith}
 use borrow.Author.Needs.{needs}
-use Rattle.read_items.specs.Laws.Context.{reads-index, reads-index-above, reads-index-stop}
-use Rattle.read_items.specs.Laws.Reads.{was-read, was-refused}
+use Rattle.read_items.specs.Laws.Context.{was-index, index-inside, no-index, entry-fits}
 use Rattle.read_items.proofs.items.read_pool_index.Statement.{statement}
 use Rattle.read_items.proofs.items.read_pool_index.Tie as tie
 
+mul-k : tie.Need-mul-k
+mul-k c = omega (arith, index-inside (c .before .i .given .1) (c .before .before .before .read-index .ensures))
+
+mul-offset : tie.Need-mul-t11
+mul-offset c = omega (arith, index-inside (c .before .i .given .1) (c .before .before .before .read-index .ensures))
+
+offset-inside : tie.Need-shared-slice-read-t13
+offset-inside c = omega (arith, index-inside (c .before .before .i .given .1) (c .before .before .before .before .read-index .ensures))
+
+add-length : tie.Need-add-t15
+add-length c = omega (arith, index-inside (c .before .before .i .given .1) (c .before .before .before .before .read-index .ensures))
+
+mul-length : tie.Need-mul-t16
+mul-length c = omega (arith, index-inside (c .before .before .i .given .1) (c .before .before .before .before .read-index .ensures))
+
+length-inside : tie.Need-shared-slice-read-t18
+length-inside c = omega (arith, index-inside (c .before .before .before .i .given .1) (c .before .before .before .before .before .read-index .ensures))
+
 returns : tie.Need-returns
 returns c =
-    let at-v = c .before .before .before .before in
-    let v = at-v .v in
-    let read-uvarint = at-v .before .before .read-uvarint in
-    let start = at-v .before .before .before .before .before in
-    let fits = start .pre in
-    let pool = start .args .pool .now in
-    let index = was-read (v .given .1) (read-uvarint .ensures) in
-    let i = (v .given .0 .0) % 2 ^ 32 in
-    record { is = λ names cs. reads-index pool names cs index (omega arith); inside = fits i (omega arith) }
+    let i = c .before .before .before .i .given in
+    let index = c .before .before .before .before .before .read-index .ensures in
+    let start = c .before .before .before .before .before .before .before .before in
+    record { is = was-index (i .1) index; inside = entry-fits (start .args .bytes .now) (start .args .pool .now) (i .0 .0) (start .pre) (index-inside (i .1) index) }
 
 returns-2 : tie.Need-returns-2
-returns-2 c =
-    let read-uvarint = c .before .before .before .before .read-uvarint in
-    let pool = c .before .before .before .before .before .before .before .args .pool .now in
-    let index = was-read (c .before .before .v .given .1) (read-uvarint .ensures) in
-    record { is = λ names cs. reads-index-above pool names cs index (c .if1 .left); inside = tt }
-
-returns-3 : tie.Need-returns-3
-returns-3 c =
-    let pool = c .before .before .before .before .before .before .args .pool .now in
-    let index = was-refused (c .before .n .given .1) (c .before .before .before .read-uvarint .ensures) in
-    record { is = λ names cs. reads-index-stop pool names cs index; inside = tt }
+returns-2 c = record { is = no-index (c .before .n .given .1) (c .before .before .before .read-index .ensures); inside = tt }
 
 pub read-pool-index-spec : {M : Type 1} → statement M
 read-pool-index-spec =
@@ -38,14 +39,12 @@ read-pool-index-spec =
     (tie.spec
     (λ c κs. search needs)
     (λ c. search needs)
-    (λ c. search needs)
-    (λ c. search needs)
-    (λ c. search needs)
-    (λ c. search needs)
-    (λ c. search needs)
-    (λ c. search needs)
+    mul-k
+    mul-offset
+    offset-inside
+    add-length
+    mul-length
+    length-inside
     (λ c. search needs)
     returns
-    (λ c. search needs)
-    returns-2
-    returns-3)
+    returns-2)
