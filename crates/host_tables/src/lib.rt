@@ -1,19 +1,15 @@
 // The calls on lent tables for a Rust host. Each gives the refusal's number or 0, and puts its fields into the answer's first words.
 mod write;
 
-ghost use mathlib.Core.Path.{_≡_};
 ghost use lib.ListN.{length};
-ghost use Rattle.answer.specs.PutIfRoom.{putIfRoom};
 ghost use Rattle.payload.specs.House.{house};
-ghost use Rattle.payload.specs.Answers.{readFields, readNumber};
 ghost use Rattle.payload.specs.Tables.{capacitiesOf, reading};
-ghost use Rattle.host_tables.specs.HostTables.{HostRead};
+ghost use Rattle.host_tables.specs.HostTables.{HostRead, PutRead};
 use payload::Read;
 
 // Puts the fields of a read or a check into the answer, and gives its number.
 fn put_read(read: Read, answer: &mut [u64]) -> u64
-    ensures { λ r. ⌜ r ≡ readNumber read ⌝ }
-    ensures { λ _. ⌜ now (answer .exit) ≡ putIfRoom (now (answer .entry)) 0 (readFields read) ⌝ }
+    ensures { λ r. ⌜ PutRead read (now (answer .entry)) (now (answer .exit)) r ⌝ }
 {
     match read {
         Read::Accepted(counts) => {

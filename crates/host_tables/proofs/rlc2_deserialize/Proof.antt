@@ -5,9 +5,7 @@ use Rattle.host_tables.proofs.rlc2_deserialize.Statement.{statement}
 use Rattle.host_tables.proofs.rlc2_deserialize.Tie as tie
 
 returns : tie.Need-returns
-returns c =
-    let deserialize-payload = c .before .before .before .before .before .before .before .before .before .before .before .before .deserialize-payload in
-    host-read (deserialize-payload .ensures) (c .before .before .put-read .ensures)
+returns c = host-read (c .before .before .put-read .ensures) (search needs)
 
 pub rlc2-deserialize-spec : {M : Type 1} → statement M
 rlc2-deserialize-spec =

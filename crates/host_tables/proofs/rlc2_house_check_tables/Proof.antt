@@ -5,9 +5,7 @@ use Rattle.host_tables.proofs.rlc2_house_check_tables.Statement.{statem
 use Rattle.host_tables.proofs.rlc2_house_check_tables.Tie as tie
 
 returns : tie.Need-returns
-returns c =
-    let house-check = c .before .before .before .before .before .before .before .before .before .before .before .before .house-check in
-    host-read (house-check .ensures) (c .before .before .put-read .ensures)
+returns c = host-read (c .before .before .put-read .ensures) (search needs)
 
 pub rlc2-house-check-tables-spec : {M : Type 1} → statement M
 rlc2-house-check-tables-spec =

@@ -33,7 +33,6 @@ read-index-spec =
     (tie.spec
     (λ c κs. search needs)
     (λ c. search needs)
-    (λ c κs. search needs)
     returns
     (λ c. search needs)
     returns-2
