@@ -1,4 +1,4 @@
--- A fact of every index of a run, of runs end to end and of two tests.
+-- What holds of every index of two runs that meet holds of every index of both together.
 use mathlib.Core.Path.{_≡_, subst}
 use mathlib.Core.Bool.{Bool, true, _&&_, and-eq-true-iff}
 use mathlib.Core.Logic.{⊎-elim}

@@ -27,6 +27,6 @@ FollowsAt s k = canFollow (getD s k 0) (getD s (k + 1) 0) ≡ true
 abbrev pub Follows : List ℕ → ℕ → ℕ → Type 0
 Follows s i j = (k : ℕ) → i ≤ k → k < j → FollowsAt s k
 
--- where the last whole character of one or two bytes ends, i being its last index or the first of another one
+-- where the last whole character ends, of those up to index i: behind i, or at i where that is the first byte of a UTF8-2
 abbrev pub wholeEnd : List ℕ → ℕ → ℕ
 wholeEnd s i = cond (leb (getD s i 0) 0xBF) (i + 1) i

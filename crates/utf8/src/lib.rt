@@ -261,8 +261,8 @@ fn can_follow(a: u8, b: u8) -> bool
     two(a, b) | (!begins_two(a) & begins_short(b))
 }
 
-// Whether each of the sixteen bytes behind index i can stand after the one before it; `false` says nothing. Without an exit, so that it is compiled to
-// vectors.
+// Whether each of the sixteen bytes behind index i can stand after the one before it; `false` says nothing. Without an exit, so that it is compiled
+// to vectors.
 fn block_follows(s: &[u8], i: usize) -> bool
     requires { ⌜ i + 16 < length (now s) ⌝ }
     ensures { λ r. ⌜ (r ≡ true → Follows (now (s .entry)) i (i + 16)) ⌝ }
@@ -277,7 +277,7 @@ fn block_follows(s: &[u8], i: usize) -> bool
     all
 }
 
-// Where the last whole character ends, where the bytes up to i are such characters.
+// Where the last whole character ends in text of one- and two-byte characters up to index i: behind i, or at i where that only begins one.
 fn whole_end(s: &[u8], i: usize) -> usize
     requires { ⌜ i < length (now s) ⌝ }
     ensures { λ r. ⌜ r ≡ wholeEnd (now (s .entry)) i ⌝ }
