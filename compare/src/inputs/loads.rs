@@ -40,6 +40,17 @@ pub fn strings(seed: u64, count: usize) -> Program {
     }
 }
 
+/// The same with each string once, and then so many uses of any of them.
+pub fn repeated_strings(seed: u64, count: usize, uses: usize) -> Program {
+    let mut random = Random::new(seed);
+    let mut titles: Vec<Row> = (0..count).map(title).collect();
+    titles.extend((0..uses).map(|_| title(random.below(count))));
+    Program {
+        chunk: chunk(&mut random, 40, titles),
+        line_index: None,
+    }
+}
+
 /// A function of titles and of the values that cues use: times, a mark, and a closure within.
 fn scene(random: &mut Random, numbers: Range<usize>, distinct: usize) -> Row {
     let first = numbers.start;

@@ -2,7 +2,7 @@
 
 use crate::compare::domain::rust_write;
 use crate::document::{Counts, Loan, Program, Tables, read};
-use crate::inputs::loads::{NATIVE_NAMES, NATIVES, script, strings};
+use crate::inputs::loads::{NATIVE_NAMES, NATIVES, repeated_strings, script, strings};
 use original::native::Module;
 use original::tree;
 use original::{Chunk, LineIndex};
@@ -11,11 +11,19 @@ use original::{Chunk, LineIndex};
 const TITLES: usize = 40_000;
 const STRINGS: usize = 100_000;
 const FEW: usize = 16;
+
+/// Strings that come again, and how many uses there are after the first of each.
+const REPEATED: usize = 10_000;
+const REPEATS: usize = 30_000;
+
+/// The tag of a string.
+const STRING: u64 = 6;
 const GROWTH: [usize; 5] = [TITLES / 4, TITLES / 2, TITLES, 2 * TITLES, 4 * TITLES];
 
 pub struct Load {
     pub name: String,
     pub payload: Vec<u8>,
+    pub store: Vec<u8>,
     pub counts: Counts,
     pub tables: Tables,
     pub chunk: Chunk,
@@ -43,6 +51,7 @@ impl Load {
         let (chunk, lines) = original::from_tree::program(program);
         Self {
             name: format!("{name}, {} bytes", payload.len()),
+            store: payload.clone(),
             payload,
             counts,
             tables,
@@ -51,9 +60,25 @@ impl Load {
         }
     }
 
+    /// Gives each string row bytes of its own, behind the payload.
+    fn scattered(mut self) -> Self {
+        for row in self
+            .tables
+            .rows
+            .chunks_mut(5)
+            .filter(|row| row[0] == STRING)
+        {
+            let offset = row[1] as usize;
+            row[1] = self.store.len() as u64;
+            self.store
+                .extend_from_within(offset..offset + row[2] as usize);
+        }
+        self
+    }
+
     pub fn program(&self) -> Program<'_> {
         Program {
-            store: &self.payload,
+            store: &self.store,
             counts: self.counts,
             rows: &self.tables.rows,
             spans: &self.tables.spans,
@@ -64,6 +89,12 @@ impl Load {
 
 pub fn strings_load(seed: u64) -> Load {
     Load::new(format!("{STRINGS} strings"), &strings(seed, STRINGS))
+}
+
+/// Strings that come again in random order, in a store that is no payload.
+pub fn repeated_load(seed: u64) -> Load {
+    let name = format!("{REPEATED} strings, {REPEATS} again");
+    Load::new(name, &repeated_strings(seed, REPEATED, REPEATS)).scattered()
 }
 
 /// The script load in five sizes, the middle one being the load itself.

@@ -1,17 +1,18 @@
 //! Writing the loads. The pool table holds what the round before left there: it is not cleared before a call.
 
 use super::in_turn;
-use super::loads::{Load, growing, growing_of_few, strings_load};
+use super::loads::{Load, growing, growing_of_few, repeated_load, strings_load};
 use crate::document::Program;
 use crate::ours;
 
-/// Scripts and strings that are nearly all distinct, then scripts of few distinct ones.
+/// Strings that are all distinct, strings that come again, scripts that are nearly all distinct, then scripts of few distinct strings.
 pub fn write(seed: u64) {
     println!(
         "{:<40} {:>9} {:>9} {:>9} {:>8} {:>8} {:>10}",
         "", "ours, ms", "Rust, ms", "ours/Rust", "ns/byte", "scan, ms", "gather, ms"
     );
     measure(&strings_load(seed));
+    measure(&repeated_load(seed));
     let distinct = growing(seed).map(|load| measure(&load)).collect();
     let few = growing_of_few(seed).map(|load| measure(&load)).collect();
     let growth = |per_byte: Vec<f64>| per_byte[per_byte.len() - 1] / per_byte[0];
