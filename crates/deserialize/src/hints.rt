@@ -219,7 +219,7 @@ fn eights(bytes: &[u8], at: usize) -> usize
 // Whether hints are likely to save more than they cost. To add them takes about 2 ns for each byte of the list and 28 ns for each string that is linked; a search takes
 // about 1/12 ns for each byte of the list. So they pay from 24 searches on where strings are few, and twice as many are asked for. Bytes 08 that are no native's are about one in a
 // hundred: either there must be more of them, or the cost must be little beside that of reading, which is about 2 ns for each byte.
-fn pay(names: &[u8], bytes: &[u8], pool: &[u64], at: usize) -> bool
+pub(crate) fn pay(names: &[u8], bytes: &[u8], pool: &[u64], at: usize) -> bool
     requires { ⌜ at ≤ length (now bytes) ⌝ }
     ensures { λ r. ⌜ (r ≡ true → (1024 ≤ length (now (names .entry))) × (1 < length (now (pool .entry)))) ⌝ }
 {
@@ -245,7 +245,7 @@ fn pay(names: &[u8], bytes: &[u8], pool: &[u64], at: usize) -> bool
 }
 
 // Adds the hints.
-fn add(names: &[u8], bytes: &[u8], pool: &mut [u64])
+pub(crate) fn add(names: &[u8], bytes: &[u8], pool: &mut [u64])
     requires { ⌜ (1024 ≤ length (now names)) × (1 < length (now pool)) × PoolFits (now bytes) (now pool) ⌝ }
     ensures { λ _. ⌜ plainWords (now (pool .exit)) ≡ plainWords (now (pool .entry)) ⌝ }
 {
@@ -254,7 +254,7 @@ fn add(names: &[u8], bytes: &[u8], pool: &mut [u64])
 }
 
 // Takes away all that stands above the base.
-fn take_away(pool: &mut [u64])
+pub(crate) fn take_away(pool: &mut [u64])
     ensures { λ _. ⌜ now (pool .exit) ≡ plainWords (now (pool .entry)) ⌝ }
 {
     let mut i: usize = 0;
