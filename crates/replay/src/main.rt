@@ -1,6 +1,6 @@
 // Replays the answers that are recorded in the files that its arguments name: varints, UTF-8 and lines by the Rust, payloads and programs by document
 // 01 and the Rust. What the replayed calls promise, and what a field or a table of a record says, is in the contracts of their own crates.
-ghost use Prim.Native.Nat.{_<_};
+ghost use Prim.Native.Nat.{_+_, _≤_, _<_};
 
 mod leaves;
 mod payloads;
@@ -27,6 +27,16 @@ fn u16_at(bytes: &[u8], at: usize) -> usize
     recorded::number_at(bytes, at, 2) as usize
 }
 
+// Where the recorded words end that stand in a table, with zeros behind them; 0 where others stand there, or where `at` is 0, since something before
+// them differs. The table holds what is recorded afterwards.
+fn words_end(records: &[u8], at: usize, size: usize, table: &mut [u64]) -> usize
+    requires { ⌜ (at < 0x1000_0000) × (size < 0x100_0000) ⌝ }
+    ensures { λ r. ⌜ r ≤ at + size ⌝ }
+{
+    let agrees = recorded::words_in(recorded::part(records, at, size), table);
+    if (at != 0) & agrees { at + size } else { 0 }
+}
+
 // Whether an output holds the recorded bytes, and nothing but this one behind them.
 fn output_agrees(out: &[u8], recorded: &[u8], rest: u8) -> bool {
     let room = out.len();
@@ -41,7 +51,7 @@ fn output_agrees(out: &[u8], recorded: &[u8], rest: u8) -> bool {
     slices::equal(out, &expected[..room])
 }
 
-// A payload read or checked, or a program written, by the letter of the file.
+// A program written, or a payload read or checked, by the letter of the file.
 fn called(
     letter: u8,
     records: &[u8],
@@ -50,14 +60,15 @@ fn called(
     starts: &mut [u32],
     pool: &mut [u64],
 ) -> usize {
-    match letter {
-        b'r' => payloads::read(records, rows, spans, starts, pool),
-        b'c' => payloads::checked(records, rows, spans, starts, pool),
-        _ => programs::written(records, rows, spans, starts, pool),
+    if letter == b'w' {
+        return programs::written(records, rows, spans, starts, pool);
     }
+    let answer = payloads::answer_of(letter == b'c', records, rows, spans, starts, pool);
+    payloads::agreed(records, answer, rows, spans, starts, pool)
 }
 
-// Lends the front of each table, as many words as the record says in the fields from `at` on. Ones stand in them, which no call leaves.
+// Lends the front of each table, as many words as the record says in the fields from `at` on. Ones stand in them, so that a word which a call should
+// clear and does not is seen.
 fn lent(letter: u8, records: &[u8], at: usize) -> usize
     requires { ⌜ at < 8 ⌝ }
 {

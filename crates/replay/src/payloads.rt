@@ -3,25 +3,12 @@
 // lent words are 0 after the call, whatever stood there before.
 ghost use Prim.Native.Nat.{_<_};
 use crate::u16_at;
+use crate::words_end;
 use payload::Program;
 use payload::Read;
 use recorded::part;
 use recorded::starts_in;
 use recorded::words_in;
-
-fn bytes_of(records: &[u8]) -> &[u8] {
-    part(records, 12, u16_at(records, 0))
-}
-
-fn names_of(records: &[u8]) -> &[u8] {
-    part(records, 12 + u16_at(records, 0), u16_at(records, 2))
-}
-
-fn fields_from(records: &[u8]) -> usize
-    ensures { λ r. ⌜ r < 0x3_0000 ⌝ }
-{
-    12 + u16_at(records, 0) + u16_at(records, 2)
-}
 
 // Whether the nine fields of an answer are those recorded.
 fn answer_agrees(answer: Read, recorded: &[u8]) -> bool {
@@ -47,8 +34,36 @@ fn answer_agrees(answer: Read, recorded: &[u8]) -> bool {
     }
 }
 
+// The answer to the payload of a record, read or checked.
+pub(crate) fn answer_of(
+    checked: bool,
+    records: &[u8],
+    rows: &mut [u64],
+    spans: &mut [u64],
+    starts: &mut [u32],
+    pool: &mut [u64],
+) -> Read {
+    let size = u16_at(records, 0);
+    let bytes = part(records, 12, size);
+    let names = part(records, 12 + size, u16_at(records, 2));
+    if checked {
+        house::house_check(bytes, names, rows, spans, starts, pool)
+    } else {
+        deserialize::deserialize_payload(bytes, names, rows, spans, starts, pool)
+    }
+}
+
+// Where the nine fields end that are those of an answer, or 0 where they are not.
+fn fields_end(records: &[u8], from: usize, answer: Read) -> usize
+    requires { ⌜ from < 0x3_0000 ⌝ }
+    ensures { λ r. ⌜ r < 0x4_0000 ⌝ }
+{
+    let agrees = answer_agrees(answer, part(records, from, 72));
+    if agrees { from + 72 } else { 0 }
+}
+
 // The end of the record, or 0 where it differs from the answer and the tables, which hold what is recorded afterwards.
-fn agreed(
+pub(crate) fn agreed(
     records: &[u8],
     answer: Read,
     rows: &mut [u64],
@@ -56,45 +71,19 @@ fn agreed(
     starts: &mut [u32],
     pool: &mut [u64],
 ) -> usize {
-    let from = fields_from(records);
+    let from = 12 + u16_at(records, 0) + u16_at(records, 2);
     let row_bytes = 8 * Program::ROW_WIDTH * u16_at(records, from + 16);
     let span_bytes = 16 * u16_at(records, from + 24);
     let start_bytes = 4 * u16_at(records, from + 32);
     let pool_bytes = 16 * u16_at(records, from + 40);
-    let spans_from = from + 72 + row_bytes;
-    let pool_from = spans_from + span_bytes;
-    let starts_from = pool_from + pool_bytes;
-    let end = starts_from + start_bytes;
-    let agrees = answer_agrees(answer, part(records, from, 72))
-        & words_in(part(records, from + 72, row_bytes), rows)
-        & words_in(part(records, spans_from, span_bytes), spans)
-        & words_in(part(records, pool_from, pool_bytes), pool)
-        & starts_in(part(records, starts_from, start_bytes), starts);
-    if agrees { end } else { 0 }
-}
-
-pub(crate) fn read(
-    records: &[u8],
-    rows: &mut [u64],
-    spans: &mut [u64],
-    starts: &mut [u32],
-    pool: &mut [u64],
-) -> usize {
-    let bytes = bytes_of(records);
-    let names = names_of(records);
-    let answer = deserialize::deserialize_payload(bytes, names, rows, spans, starts, pool);
-    agreed(records, answer, rows, spans, starts, pool)
-}
-
-pub(crate) fn checked(
-    records: &[u8],
-    rows: &mut [u64],
-    spans: &mut [u64],
-    starts: &mut [u32],
-    pool: &mut [u64],
-) -> usize {
-    let bytes = bytes_of(records);
-    let names = names_of(records);
-    let answer = house::house_check(bytes, names, rows, spans, starts, pool);
-    agreed(records, answer, rows, spans, starts, pool)
+    let rows_from = fields_end(records, from, answer);
+    let spans_from = words_end(records, rows_from, row_bytes, rows);
+    let pool_from = words_end(records, spans_from, span_bytes, spans);
+    let starts_from = words_end(records, pool_from, pool_bytes, pool);
+    let agrees = starts_in(part(records, starts_from, start_bytes), starts);
+    if (starts_from != 0) & agrees {
+        starts_from + start_bytes
+    } else {
+        0
+    }
 }

@@ -5,6 +5,7 @@ ghost use Prim.Native.Nat.{_<_};
 use crate::OUTPUT;
 use crate::output_agrees;
 use crate::u16_at;
+use crate::words_end;
 use payload::Program;
 use payload::Written;
 use recorded::number_at;
@@ -15,6 +16,7 @@ use recorded::words_in;
 // What stands in the output before.
 const BEFORE: u8 = 170;
 
+// The program record.
 fn program_at(records: &[u8]) -> Program {
     Program {
         rows: number_at(records, 12, 8) as usize,
@@ -26,19 +28,6 @@ fn program_at(records: &[u8]) -> Program {
     }
 }
 
-// Puts the rows, spans and starts of a record into lent tables, as many as they have, and answers where they end.
-fn tables_in(records: &[u8], rows: &mut [u64], spans: &mut [u64], starts: &mut [u32]) -> usize
-    ensures { λ r. ⌜ r < 0x30_0000 ⌝ }
-{
-    let rows_from = 60 + u16_at(records, 0);
-    let spans_from = rows_from + 8 * u16_at(records, 2);
-    let starts_from = spans_from + 8 * u16_at(records, 4);
-    words_in(part(records, rows_from, records.len()), rows);
-    words_in(part(records, spans_from, records.len()), spans);
-    starts_in(part(records, starts_from, records.len()), starts);
-    starts_from + 4 * u16_at(records, 6)
-}
-
 // Whether an answer is what is recorded: number, and length or place.
 fn answer_agrees(answer: Written, number: u64, length: u64) -> bool {
     match answer {
@@ -47,24 +36,27 @@ fn answer_agrees(answer: Written, number: u64, length: u64) -> bool {
     }
 }
 
-// The end of the record, or 0 where it differs from the answer, the pool table and the output. The answer stands at `from`.
+// The end of the record, or 0 where it differs from the answer, the pool table and the output. The answer is recorded at `from`.
 fn agreed(records: &[u8], from: usize, answer: Written, pool: &mut [u64], out: &[u8]) -> usize
     requires { ⌜ from < 0x30_0000 ⌝ }
 {
     let number = number_at(records, from, 8);
     let length = number_at(records, from + 8, 8);
-    let pool_bytes = 8 * u16_at(records, 8);
-    let out_from = from + 16 + pool_bytes;
+    let out_from = words_end(records, from + 16, 8 * u16_at(records, 8), pool);
     let size = if number == 0 { length as usize } else { 0 };
     if OUTPUT < size {
         return 0;
     }
     let agrees = answer_agrees(answer, number, length)
-        & words_in(part(records, from + 16, pool_bytes), pool)
         & output_agrees(out, part(records, out_from, size), BEFORE);
-    if agrees { out_from + size } else { 0 }
+    if (out_from != 0) & agrees {
+        out_from + size
+    } else {
+        0
+    }
 }
 
+// Writes the program of a record, which stands in lent tables. The answer is recorded at `from`.
 fn agreed_write(
     records: &[u8],
     from: usize,
@@ -82,6 +74,7 @@ fn agreed_write(
     agreed(records, from, answer, pool, out)
 }
 
+// Puts the rows, spans and starts of a record into lent tables, as many as they have, and replays the writing.
 pub(crate) fn written(
     records: &[u8],
     rows: &mut [u64],
@@ -93,7 +86,13 @@ pub(crate) fn written(
     if OUTPUT < room {
         return 0;
     }
-    let from = tables_in(records, rows, spans, starts);
+    let rows_from = 60 + u16_at(records, 0);
+    let spans_from = rows_from + 8 * u16_at(records, 2);
+    let starts_from = spans_from + 8 * u16_at(records, 4);
+    let from = starts_from + 4 * u16_at(records, 6);
+    words_in(part(records, rows_from, records.len()), rows);
+    words_in(part(records, spans_from, records.len()), spans);
+    starts_in(part(records, starts_from, records.len()), starts);
     let mut out = [BEFORE; OUTPUT];
     agreed_write(records, from, rows, spans, starts, pool, &mut out[..room])
 }
