@@ -9,7 +9,7 @@ use lib.ListN.{length}
 use borrow.Author.Needs.{needs}
 use borrow.Author.Tests.{ltb-true, ltb-false}
 use Rattle.varint.specs.Laws.Uleb128.{uleb-small}
-use Rattle.varint.specs.Signed.{zigzagOf}
+use Rattle.signed.specs.Signed.{zigzagOf}
 use Rattle.payload.specs.Spans.{writeDelta}
 use Rattle.write_code.proofs.is_near.Statement.{statement}
 use Rattle.write_code.proofs.is_near.Tie as tie
