@@ -36,7 +36,13 @@ pub fn natives(random: &mut Random) -> Natives {
 
 /// A name with a number below 300, so that a list has some twice, and some are the begin or the end of others.
 fn name(random: &mut Random) -> String {
-    let front = random.pick(&["", "n", "cue", "stage::cue", "a name of more than sixteen bytes "]);
+    let front = random.pick(&[
+        "",
+        "n",
+        "cue",
+        "stage::cue",
+        "a name of more than sixteen bytes ",
+    ]);
     format!("{front}{}", random.below(300))
 }
 

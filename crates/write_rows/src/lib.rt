@@ -268,7 +268,8 @@ fn write_items(
     requires { ⌜ Ready comparing (now out) (st .at) ⌝ }
     requires { ⌜ Writable (now store) (now pool) (now spans) ⌝ }
     requires { ⌜ i < rowCount (now rows) ⌝ }
-    ensures { λ r. ⌜ Emitted comparing (now (payload .entry)) (now (out .entry)) (now (out .exit)) (st .at) (r .at) (itemsBytes (held (now (store .entry)) (now (pool .entry)) (now (rows .entry)) []) i (spansOf (now (spans .entry)))) ⌝ }
+    ensures { λ r. ⌜ Emitted comparing (now (payload .entry)) (now (out .entry)) (now (out .exit)) (st .at) (r .at)
+        (itemsBytes (held (now (store .entry)) (now (pool .entry)) (now (rows .entry)) []) i (spansOf (now (spans .entry)))) ⌝ }
 {
     let tag = word_at(rows, i, 0);
     let a = write_item(
@@ -686,7 +687,8 @@ fn write_line_index(
 ) -> usize
     requires { ⌜ Ready comparing (now out) at ⌝ }
     requires { ⌜ distinct (poolStrings (now store) (now pool)) ≡ true ⌝ }
-    ensures { λ r. ⌜ Emitted comparing (now (payload .entry)) (now (out .entry)) (now (out .exit)) at r (lineBytes (poolStrings (now (store .entry)) (now (pool .entry))) flag (bytesAt (now (store .entry)) o n) (now (starts .entry))) ⌝ }
+    ensures { λ r. ⌜ Emitted comparing (now (payload .entry)) (now (out .entry)) (now (out .exit)) at r
+        (lineBytes (poolStrings (now (store .entry)) (now (pool .entry))) flag (bytesAt (now (store .entry)) o n) (now (starts .entry))) ⌝ }
 {
     if flag == 0 {
         return emit::emit_byte(comparing, payload, out, at, 0);
@@ -802,7 +804,8 @@ pub fn write_out(
 ) -> usize
     requires { ⌜ (length (payloadBytes (held (now store) (now pool) (now rows) (now spans)) flag (bytesAt (now store) o n) (now starts)) ≤ length (now out)) × (length (now out) ≤ sizeLimit) ⌝ }
     requires { ⌜ Writable (now store) (now pool) (now spans) ⌝ }
-    ensures { λ r. ⌜ WrittenOut (payloadBytes (held (now (store .entry)) (now (pool .entry)) (now (rows .entry)) (now (spans .entry))) flag (bytesAt (now (store .entry)) o n) (now (starts .entry))) (now (out .entry)) (now (out .exit)) r ⌝ }
+    ensures { λ r. ⌜ WrittenOut (payloadBytes (held (now (store .entry)) (now (pool .entry)) (now (rows .entry)) (now (spans .entry))) flag (bytesAt (now (store .entry)) o n) (now (starts .entry)))
+        (now (out .entry)) (now (out .exit)) r ⌝ }
 {
     let z: usize = 0;
     write_all(

@@ -37,7 +37,8 @@ or-cases false b f g e = g e
 -- a signed number of k bits lies at one end of the words; the facts are those of the numerals of a width
 module _ (k w low high : ℕ) (l : k ≤ 64)
     (low-is : w % 2 ^ k < 2 ^ (k - 1) → w < low → w % 2 ^ k ≡ w) (is-low : w % 2 ^ k < 2 ^ (k - 1) → w % 2 ^ k ≡ w → w < low) (not-high : w % 2 ^ k < 2 ^ (k - 1) → high ≤ w → ⊥)
-    (high-is : 2 ^ (k - 1) ≤ w % 2 ^ k → high ≤ w → w % 2 ^ k + (2 ^ 64 - 2 ^ k) ≡ w) (is-high : 2 ^ (k - 1) ≤ w % 2 ^ k → w % 2 ^ k + (2 ^ 64 - 2 ^ k) ≡ w → high ≤ w) (not-low : 2 ^ (k - 1) ≤ w % 2 ^ k → w < low → ⊥) where
+    (high-is : 2 ^ (k - 1) ≤ w % 2 ^ k → high ≤ w → w % 2 ^ k + (2 ^ 64 - 2 ^ k) ≡ w)
+    (is-high : 2 ^ (k - 1) ≤ w % 2 ^ k → w % 2 ^ k + (2 ^ 64 - 2 ^ k) ≡ w → high ≤ w) (not-low : 2 ^ (k - 1) ≤ w % 2 ^ k → w < low → ⊥) where
   signed-fits : fitsSigned k w ≡ (ltb w low || leb high w)
   unfolding fitsSigned
   signed-fits = go (ltb (w % 2 ^ k) (2 ^ (k - 1))) refl

@@ -54,7 +54,8 @@ unfolding repeated if_then_else_
 repeated-some s [] m h = absurd (omega arith)
 repeated-some s (t ∷ l) m h = go (repeated-some s l m) (sameSpan s t) h
   where
-    go : (repeated s l < length l → repeated s (l ++ m) ≡ repeated s l) → (b : Bool) → if_then_else_ b (suc (repeated s l)) 0 < suc (length l) → if_then_else_ b (suc (repeated s (l ++ m))) 0 ≡ if_then_else_ b (suc (repeated s l)) 0
+    go : (repeated s l < length l → repeated s (l ++ m) ≡ repeated s l) → (b : Bool) → if_then_else_ b (suc (repeated s l)) 0 < suc (length l)
+        → if_then_else_ b (suc (repeated s (l ++ m))) 0 ≡ if_then_else_ b (suc (repeated s l)) 0
     go f true g = ap suc (f (omega arith))
     go f false g = refl
 
@@ -63,7 +64,8 @@ unfolding repeated if_then_else_
 repeated-all s [] m h = omega arith
 repeated-all s (t ∷ l) m h = go (repeated-all s l m) (sameSpan s t) h
   where
-    go : (length l ≤ repeated s l → repeated s (l ++ m) ≡ length l + repeated s m) → (b : Bool) → suc (length l) ≤ if_then_else_ b (suc (repeated s l)) 0 → if_then_else_ b (suc (repeated s (l ++ m))) 0 ≡ suc (length l) + repeated s m
+    go : (length l ≤ repeated s l → repeated s (l ++ m) ≡ length l + repeated s m) → (b : Bool) → suc (length l) ≤ if_then_else_ b (suc (repeated s l)) 0
+        → if_then_else_ b (suc (repeated s (l ++ m))) 0 ≡ suc (length l) + repeated s m
     go f true g = omega (arith, f (omega arith))
     go f false g = absurd (omega arith)
 
