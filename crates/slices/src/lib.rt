@@ -1,4 +1,6 @@
 // Parts of slices: zero fill, copy, equality, and eight bytes as a number.
+#![tactic(auto)]
+
 ghost use Rattle.std.specs.Prelude.{◌≡◌, ◌+◌, ◌≤◌, ◌<◌, length, take, drop};
 ghost use Rattle.slices.specs.Put.{put};
 ghost use Rattle.slices.specs.Same.{same};

@@ -1,0 +1,34 @@
+-- `copy_part` meets its contract: at each turn the first i bytes of s are stored.
+use mathlib.Core.Path.{◌≡◌, refl, sym, ap, ◌∙◌}
+use mathlib.Core.List.{List}
+use Prim.Native.Nat.{ℕ, ◌+◌, ◌-◌, ◌≤◌}
+use native.Mathlib.Omega.{arith}
+use lib.ListN.{length, get_or, take, set, length-set}
+use lib.Seq.{take_all}
+use borrow.Author.Rules.{rules}
+use Rattle.slices.specs.Put.{put}
+use Rattle.slices.specs.Laws.Put.{put_none}
+use Rattle.slices.proofs.Loops.{copy_more}
+use Rattle.slices.proofs.copy_part.Goals as goal
+
+pub loop-i-init : goal.loop-i-init
+loop-i-init c = (omega arith, refl, sym (put_none _ _))
+
+pub loop-i-preserved : goal.loop-i-preserved
+loop-i-preserved c =
+    let loop = c.loop-i in
+    let args = c.args in
+    let d = args.out.now in
+    let at = args.at in
+    let s = args.s.now in
+    let i = loop.i in
+    let inv = loop.invariant in
+    (omega arith, simp length-set inv.1, ap (λ (l : List ℕ). set l (at + i) (get_or s i 0)) inv.2 ∙ copy_more d at s i (omega arith))
+
+pub returns : goal.returns
+returns c =
+    let args = c.args in
+    let d = args.out.now in
+    let at = args.at in
+    let s = args.s.now in
+    c.loop-i.invariant.2 ∙ ap (put d at) (take_all c.loop-i.i s (omega arith))
