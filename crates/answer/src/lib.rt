@@ -1,4 +1,6 @@
 // The fields of an answer, put into the words that a host lends for them.
+#![tactic(auto)]
+
 ghost use Rattle.std.specs.Prelude.{◌≡◌};
 ghost use Rattle.answer.specs.PutIfRoom.{put_if_room};
 

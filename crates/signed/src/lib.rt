@@ -1,4 +1,6 @@
 // Signed numbers: zigzag, words modulo 2^64, cuts and running positions.
+#![tactic(auto)]
+
 ghost use Rattle.std.specs.Prelude.{◌≡◌, ◌≤◌, ◌<◌};
 ghost use Rattle.signed.specs.Signed.{zigzag_of, unzigzag_of, word_of, signed_of};
 ghost use Rattle.signed.specs.Position.{fits63_bits, position_of};

@@ -1,4 +1,6 @@
 // Whether bytes are UTF-8, by the grammar of RFC 3629, section 4.
+#![tactic(auto)]
+
 ghost use Rattle.std.specs.Prelude.{◌≡◌, true, ◌+◌, ◌≤◌, ◌<◌, length, get_or};
 ghost use Rattle.utf8.specs.Pairs.{begins_two, begins_short, can_follow, Follows, whole_end};
 ghost use Rattle.utf8.specs.Skips.{Ascii, high_bits, Skips};

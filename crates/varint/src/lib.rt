@@ -1,4 +1,6 @@
 // ULEB128: its width, writing and reading.
+#![tactic(auto)]
+
 ghost use Rattle.std.specs.Prelude.{◌≡◌, ◌+◌, ◌≤◌, ◌<◌, length, get_or};
 ghost use Rattle.slices.specs.Put.{put};
 ghost use Rattle.varint.specs.Uleb128.{uleb128};

@@ -1,0 +1,15 @@
+use Prim.Native.Nat.{ℕ, ◌+◌, ◌-◌, ◌≤◌}
+use mathlib.Core.Path.{◌≡◌, sym, ◌∙◌}
+use mathlib.Core.Bool.{true}
+use mathlib.Core.List.{List}
+use native.Mathlib.Omega.{arith}
+use borrow.Author.Rules.{rules}
+use Rattle.utf8.specs.Pairs.{FollowsAt, Follows}
+use Rattle.utf8.proofs.Runs.{run_one, run_and}
+use Rattle.utf8.proofs.block_follows.Given as goal
+
+abbrev pub invariant-loop-k : goal.invariant-loop-k
+invariant-loop-k l = (l.i ≤ l.k) × (l.k ≤ l.i + 16) × (l.all ≡ true → Follows l.s l.i l.k)
+
+abbrev pub decreases-loop-k : goal.decreases-loop-k
+decreases-loop-k l = l.i + 16 - l.k

@@ -1,0 +1,8 @@
+-- The three tests are those of the definition.
+use borrow.Author.Rules.{rules}
+use Rattle.utf8.specs.Pairs.{can_follow}
+use Rattle.utf8.proofs.can_follow.Goals as goal
+
+pub returns : goal.returns
+unfolding can_follow
+returns c = cc

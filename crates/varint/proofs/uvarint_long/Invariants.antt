@@ -1,0 +1,31 @@
+use mathlib.Core.Path.{◌≡◌, refl, sym, ap, ◌∙◌}
+use mathlib.Core.List.{List}
+use mathlib.Core.Logic.{⊎_elim}
+use Prim.Native.Nat.{ℕ, zero, suc, ◌+◌, ◌-◌, ◌*◌, ◌/◌, ◌%◌, ◌^◌, ◌≤◌, ◌<◌}
+use native.Mathlib.Omega.{arith}
+use native.Mathlib.Nat.{mod-lt, mul-mod_left}
+use borrow.Author.Rules.{rules}
+use lib.Arith.{digits_lt}
+use lib.Pow.{pow-add, pow_pos, mod-pow-add}
+use lib.ListN.{length, drop, get_or}
+use Rattle.varint.specs.declared.Varint.{Varint}
+use Rattle.varint.specs.declared.Varint.TheVariants.{Number, Refused}
+use Rattle.varint.specs.Varint.{under, scan, cut, varint_of}
+use Rattle.varint.specs.Laws.Varint.{at_end, at_last, at_more, onto, onto_under, scan_none}
+use Rattle.varint.proofs.uvarint_long.Given as goal
+
+pub record Sofar (s : List ℕ) (at end value shift i : ℕ) : Type 0 where
+  pub begun : at < i
+  pub upto : i ≤ end
+  pub inside : end ≤ length s
+  pub ten : end ≤ at + 10
+  pub whole : end < at + 10 → end ≡ length s
+  pub sevens : shift ≡ 7 * (i - at)
+  pub small : value < 2 ^ shift
+  pub reads : varint_of s at ≡ cut (onto value (2 ^ shift) (scan at (at + 10 - i) (drop i s) i))
+
+abbrev pub invariant-loop-i : goal.invariant-loop-i
+invariant-loop-i l = Sofar l.bytes l.at l.end l.value l.shift l.i
+
+abbrev pub decreases-loop-i : goal.decreases-loop-i
+decreases-loop-i l = l.end - l.i
