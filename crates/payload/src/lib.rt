@@ -1,4 +1,6 @@
 // The records that reader, writer and house check share. The definition of the payload stands in specs/.
+#![tactic(auto)]
+
 ghost use Rattle.std.specs.Prelude.{◌≡◌, min};
 ghost use Rattle.payload.specs.Rows.{row_width};
 ghost use Rattle.payload.specs.Shapes.{depth_limit};
@@ -73,8 +75,9 @@ impl Program {
     // The program of no rows, which a caller fills in with the counts of its tables. The contract also says that the constants above are the definitions' limits.
     pub fn empty() -> Self
         ensures value { result ≡ record { rows = 0; spans = 0; starts = 0; flag = 0; name_o = 0; name_n = 0 } }
-        ensures* limits_value { do ⌜ limits ≡ record { rows = (← (⟦Program::ROWS⟧).entry); spans = (← (⟦Program::SPANS⟧).entry); strings = (← (⟦Program::STRINGS⟧).entry); starts = (← (⟦Program::STARTS⟧).entry) } ⌝ }
-        ensures* fact { do ⌜ (size_limit ≡ (← (⟦Program::SIZE⟧).entry)) × (row_width ≡ (← (⟦Program::ROW_WIDTH⟧).entry)) × (depth_limit ≡ (← (⟦Program::DEPTH⟧).entry)) ⌝ }
+        ensures limits_value { limits
+            ≡ record { rows = Program.ROWS; spans = Program.SPANS; strings = Program.STRINGS; starts = Program.STARTS } }
+        ensures other_limits { (size_limit ≡ Program.SIZE) × (row_width ≡ Program.ROW_WIDTH) × (depth_limit ≡ Program.DEPTH) }
     {
         Program {
             rows: 0,

@@ -200,15 +200,19 @@ in_item_given store ss (record_name l) h = h
 in_item_given store ss (code l rs) h = h
 
 in_items_given : (store : List ℕ) (ss : List Span) (is : List (Item Part)) → InItems store is → InItems store (give_items ss is)
-unfolding InItems give_items
+unfolding InItems give_items span_item forget_item
 in_items_given store ss [] h = h
 in_items_given store ss (i ∷ is) h = (in_item_given store ss i h.0, in_items_given store _ is h.1)
 
 -- the parts stand where they stood
 pub in_given : (store : List ℕ) (ss : List Span) (ts : Trees Part) → InTrees store ts → InTrees store (give ss ts)
-unfolding InTrees give
+unfolding InTrees give span_items forget_items
 in_given store ss nil h = h
-in_given store ss (node t is ks ts) h = (in_items_given store ss is h.0, in_given store _ ks h.1, in_given store _ ts h.2)
+in_given store ss (node t is ks ts) h = (
+    in_items_given store ss is h.0,
+    in_given store (drop (span_items (forget_items is)) ss) ks h.1,
+    in_given store (drop (span_items (forget_items is) + span_count (forget_trees ks)) ss) ts h.2,
+  )
 
 ---- the spans given are the span table
 

@@ -1,8 +1,7 @@
 -- `trie::mix_word` meets its contract: the sum fits.
 use Rattle.std.proofs.Common.{ℕ, ◌+◌, ◌*◌, ◌/◌, ◌%◌, ◌^◌, ◌<◌, ap, mod-lt, arith, lit<, rules}
 use Rattle.trie.specs.Hash.{mix}
-use Rattle.trie.proofs.mix_word.Statement.{statement}
-use Rattle.trie.proofs.mix_word.Tie as tie
+use Rattle.trie.proofs.mix_word.Goals as goal
 
 sum_fits : (a b : ℕ) → a < 4294967296 → b < 4294967296 → a * 2654435761 + b < 2 ^ 64
 sum_fits a b p q = omega arith
@@ -13,12 +12,9 @@ high h p = omega arith
 all_fits : (h : ℕ) → h < 2 ^ 64 → h % 4294967296 * 2654435761 + h / 4294967296 < 2 ^ 64
 all_fits h p = sum_fits (h % 4294967296) (h / 4294967296) (mod-lt h (lit< tt)) (high h p)
 
-add_result : tie.Need-overflow-add-result
-add_result c = record { fits = all_fits c.wrapping-add-u64.result (omega (arith, c.wrapping-add-u64.ensures)) }
+pub overflow_add-result : goal.overflow_add-result
+overflow_add-result c = record { fits = all_fits c.wrapping_add_u64-x.result (omega (arith, c.wrapping_add_u64-x.ensures.value)) }
 
-returns : tie.Need-returns
+pub returns : goal.returns
 unfolding mix
-returns c = ap (λ (x : ℕ). x % 4294967296 * 2654435761 + x / 4294967296) c.wrapping-add-u64.ensures
-
-pub mix_word_spec : {M : Type 1} → statement M
-mix_word_spec = tie.close (tie.spec (λ c κs. search rules) (λ c. search rules) add_result returns)
+returns c = ap (λ (x : ℕ). x % 4294967296 * 2654435761 + x / 4294967296) c.wrapping_add_u64-x.ensures.value

@@ -1,0 +1,8 @@
+-- `payload::span_capacity` meets its contract. Assumes nothing.
+use borrow.Author.Rules.{rules}
+use Rattle.payload.specs.Tables.{capacities_of}
+use Rattle.payload.proofs.span_capacity.Goals as goal
+
+pub returns : goal.returns
+unfolding capacities_of
+returns c = c.smaller.ensures

@@ -1,0 +1,12 @@
+use native.Mathlib.Omega.{arith}
+use Prim.Native.Nat.{◌-◌}
+use lib.ListN.{length}
+use borrow.Author.Rules.{rules}
+use Rattle.recorded.specs.Laws.Recorded.{PutIn, put_start, put_next, put_end}
+use Rattle.recorded.proofs.starts_in.Given as goal
+
+abbrev pub invariant-loop-i : goal.invariant-loop-i
+invariant-loop-i l = PutIn 4 l.recorded l.initial.table l.table l.agrees l.i
+
+abbrev pub decreases-loop-i : goal.decreases-loop-i
+decreases-loop-i l = length l.initial.table - l.i
