@@ -51,7 +51,7 @@ pub record ReadIs (c : Capacities) (p : List ℕ) (listed : List ℕ → Bool) (
   pub rows_are : s.rows ≡ size (single u.script.outer)
   pub rows_fit : size (single u.script.outer) ≤ c.rows
   pub spans_are : s.spans ≡ span_count (single (forget_script u.script).outer)
-  pub spans_fit_lem : span_count (single (forget_script u.script).outer) ≤ c.spans
+  pub spans_fit : span_count (single (forget_script u.script).outer) ≤ c.spans
   pub starts_fit : start_count (forget_line u.script.line) ≤ c.starts
   pub strings_fit : length u.pool ≤ c.strings
   pub place_is : s.rest ≡ drop s.place p
@@ -143,7 +143,7 @@ module _ (c : Capacities) (p : List ℕ) where
           rows_are = rows;
           rows_fit = omega (arith, w.inv.inv_rows);
           spans_are = spans;
-          spans_fit_lem = omega (arith, w.inv.inv_spans);
+          spans_fit = omega (arith, w.inv.inv_spans);
           starts_fit = w.holds.line_is.line_starts_lem;
           strings_fit = omega (arith, w.holds.pool_is.1);
           place_is = w.inv.inv_rest;
