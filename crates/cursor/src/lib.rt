@@ -1,4 +1,6 @@
 // The cursor: a record that holds the payload slice and a position. Its functions take it apart and call covered ones.
+#![tactic(auto)]
+
 ghost use Rattle.std.specs.Prelude.{◌≡◌};
 ghost use Rattle.varint.specs.Varint.{varint_of};
 ghost use Rattle.cursor.specs.Body.{body_of};

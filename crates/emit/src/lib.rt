@@ -1,6 +1,8 @@
 // Bytes of a payload, emitted at a place. One walk serves three ends: with an output the bytes are stored, with an empty one they are only measured,
 // and where `comparing` is true they are compared with `payload` and nothing is stored. Each call returns the next place: STOPPED where the bytes passed
 // the size limit or differed, and from there on.
+#![tactic(auto)]
+
 ghost use Rattle.std.specs.Prelude.{◌≡◌, true, [], ◌∷◌, ◌++◌, ◌+◌, ◌≤◌, ◌<◌, min, length};
 ghost use Rattle.slices.specs.Put.{put};
 ghost use Rattle.slices.specs.LittleEndian.{to_le_bytes};

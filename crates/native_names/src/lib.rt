@@ -1,5 +1,7 @@
 // Native names: whether a string is a name of the list. A name of n bytes ends at a 0A that stands n + 1 bytes after another, or after the list's begin.
 // So whole blocks of the list are passed by a test that compiles to vectors, and only where it holds is a string compared.
+#![tactic(auto)]
+
 ghost use Rattle.std.specs.Prelude.{true, false, ◌≡◌, ℕ, ◌+◌, ◌-◌, ◌≤◌, ◌<◌, get_or, length, take, drop};
 ghost use Rattle.payload.specs.Names.{is_listed};
 ghost use Rattle.native_names.specs.NameEnds.{Decides, Clear, NameEnds, MayEnd, LastByte};

@@ -1,6 +1,8 @@
 // What the words of a row mean, by its tag, in tables of hexadecimal digits, one digit for a tag.
 // A table is three words: the tags 0 to 15, 16 to 31, and 32 to 34. In each word the last digit is that of the lowest tag.
 // The digit of tag 34 stands for every tag that no row has.
+#![tactic(auto)]
+
 ghost use Rattle.std.specs.Prelude.{◌≡◌, min, get_or};
 ghost use Rattle.payload.specs.Shapes.{is_key_tag};
 ghost use Rattle.row_layout.specs.Digits.{entries};
