@@ -1,4 +1,6 @@
 // A scalar constant, one of fourteen cases, and the words of its row. Floats move by their bits.
+#![tactic(auto)]
+
 ghost use Rattle.std.specs.Prelude.{◌≡◌};
 ghost use Rattle.std.specs.Float.Ieee.{to_bits};
 ghost use Rattle.std.specs.Float.{binary32, binary64};
