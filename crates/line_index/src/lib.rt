@@ -1,4 +1,6 @@
 // The line index of a text: where each line starts, and the line and column of an offset.
+#![tactic(auto)]
+
 ghost use Rattle.std.specs.Prelude.{◌≡◌, true, ◌+◌, ◌-◌, ◌≤◌, ◌<◌, max, length, get_or, take};
 ghost use Rattle.slices.specs.Zeros.{pad_to};
 ghost use Rattle.line_index.specs.LineIndex.{capacity, line_index, count_of, kept};
@@ -8,7 +10,7 @@ ghost use Rattle.line_index.specs.Rises.{Rises};
 use payload::Program;
 
 // What making a line index answers: the count of starts, or a refusal's number and place.
-#[derive(Drop)]
+#[derive(Clone, Copy)]
 pub enum LineIndex {
     Starts(usize),
     Refused(u64, usize),
