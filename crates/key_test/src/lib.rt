@@ -1,4 +1,6 @@
 // The test of a key of a set or map: its tag, and the keys before it in the row table.
+#![tactic(auto)]
+
 ghost use Rattle.std.specs.Prelude.{◌≡◌, ◌+◌, ◌-◌, ◌*◌, ◌≤◌, min, length, drop};
 ghost use Rattle.payload.specs.Rows.{row_width};
 ghost use Rattle.key_test.specs.Keys.{stands, same_string, same_key, most_rows, rows_told, seen_in, key_refusal};

@@ -1,4 +1,6 @@
 // The items of a payload, read against the definition: varints, bytes, numbers of every kind, strings by pool index, and running positions.
+#![tactic(auto)]
+
 pub mod items;
 pub mod numbers;
 pub mod positions;

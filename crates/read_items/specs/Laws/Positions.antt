@@ -19,7 +19,7 @@ use Rattle.read_items.specs.declared.PositionAt.TheVariants as position_at
 
 -- a signed number, kept as a word
 pub signed : {z : ℤ} → mag z < 2 ^ 63 → to_z w64 (of_z w64 z) ≡ z
-signed h = to_z-of_z (record { sfits = h })
+signed h = to_z-of_z {w = w64} (record { sfits = h })
 
 module _ {p : List ℕ} {at : ℕ} {given old : ℤ} (o : given ≡ old) where
   ---- the variant that a match found

@@ -9,17 +9,8 @@ use mathlib.Core.List.{List}
 use native.Mathlib.Omega.{arith}
 use lib.ListN.{drop}
 use borrow.Author.Rules.{rules}
-use Rattle.key_test.proofs.seen_in.Statement.{statement}
-use Rattle.key_test.proofs.seen_in.Tie as tie
-
--- the search from here on finds what the search from the start finds
-record Searched (p rows : List ℕ) (first own gap skip i : ℕ) : Type 0 where
-  from : first ≤ i
-  upto : i ≤ own
-  small : skip ≤ (2 * most_rows + 1) * (i - first)
-  found :
-      seen_in p (drop (row_width * own) rows) gap 0 (own - first) (drop (row_width * first) rows)
-      ≡ seen_in p (drop (row_width * own) rows) gap skip (own - i) (drop (row_width * i) rows)
+use Rattle.key_test.proofs.seen_in.Invariants.{Searched}
+use Rattle.key_test.proofs.seen_in.Goals as goal
 
 module _ {p rows : List ℕ} {first own gap skip i : ℕ} (s : Searched p rows first own gap skip i) (h : i < own) where
   zero_skip :
@@ -55,48 +46,21 @@ module _ {p rows : List ℕ} {first own gap skip i : ℕ} (s : Searched p rows f
             ∙ ap (λ (j : ℕ). seen_in p (drop (row_width * own) rows) gap (skip - 1 + j) (own - (i + 1)) (drop (row_width * (i + 1)) rows)) (sym e);
       }
 
-abbrev invariant_loop : tie.invariant_loop
-invariant_loop bytes rows first own gap skip₀ i₀ skip i = Searched bytes rows first own gap skip i
+pub returns-then-same_key : goal.returns-then-same_key
+returns-then-same_key c =
+    let loop = c.loop-i in
+    hit loop.invariant c.loop-i-test.true c.if-skip-eq0.true (sym c.same_key.ensures ∙ c.if-same_key.true)
 
-abbrev decreases_loop : tie.decreases_loop
-decreases_loop bytes rows first own gap skip₀ i₀ skip i = own - i
-
-returns : tie.Need-returns invariant_loop decreases_loop
-returns c =
-    let loop = c.before.before.before.before.loop in
-    hit loop.invariant c.before.before.before.loop-test.true c.before.before.if1.true (sym c.before.same_key.ensures ∙ c.if2.true)
-
-loop_again : tie.Need-loop-preserved invariant_loop decreases_loop
-loop_again c =
-    let at-loop = c.before.before.before.before in
-    let pre = at-loop.before.before.before.requires in
-    miss at-loop.loop.invariant c.before.before.before.loop-test.true c.before.before.if1.true (sym c.before.same_key.ensures ∙ c.if2.false)
+pub loop-i-preserved-then-skip-eq0 : goal.loop-i-preserved-then-skip-eq0
+loop-i-preserved-then-skip-eq0 c =
+    let pre = c.requires in
+    miss c.loop-i.invariant c.loop-i-test.true c.if-skip-eq0.true (sym c.same_key.ensures ∙ c.if-same_key.false)
     pre.3
 
-loop_again_2 : tie.Need-loop-preserved-2 invariant_loop decreases_loop
-loop_again_2 c =
-    past c.before.before.before.loop.invariant c.before.before.loop-test.true c.before.if1.false _ c.rows_told.ensures.0
+pub loop-i-preserved : goal.loop-i-preserved
+loop-i-preserved c =
+    past c.loop-i.invariant c.loop-i-test.true c.if-skip-eq0.false _ c.rows_told.ensures.0
     c.rows_told.ensures.1
 
-returns_2 : tie.Need-returns-2 invariant_loop decreases_loop
-returns_2 c = sym (c.before.loop.invariant.found ∙ seen_end _ _ _ _ _ _ _ c.loop-test.false)
-
-pub seen_in_spec : {M : Type 1} → statement M
-seen_in_spec =
-    tie.close
-    (tie.spec
-    invariant_loop
-    decreases_loop
-    (λ c. search rules)
-    (λ c κs. search rules)
-    returns
-    (λ c. search rules)
-    (λ c. search rules)
-    loop_again
-    (λ c. search rules)
-    (λ c κs. search rules)
-    (λ c. search rules)
-    (λ c. search rules)
-    (λ c. search rules)
-    loop_again_2
-    returns_2)
+pub returns : goal.returns
+returns c = sym (c.loop-i.invariant.found ∙ seen_end _ _ _ _ _ _ _ c.loop-i-test.false)

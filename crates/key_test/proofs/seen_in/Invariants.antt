@@ -1,0 +1,26 @@
+use Rattle.payload.specs.Rows.{row_width}
+use Rattle.key_test.specs.Keys.{most_rows, rows_told, same_key, seen_in}
+use Rattle.key_test.proofs.KeyTest.{seen_end, seen_same, seen_other, seen_skip}
+use Prim.Native.Nat.{ℕ, suc, ◌+◌, ◌-◌, ◌*◌, ◌≤◌, ◌<◌}
+use mathlib.Core.Path.{◌≡◌, sym, ap, ◌∙◌}
+use mathlib.Core.Bool.{true, false}
+use mathlib.Core.List.{List}
+use native.Mathlib.Omega.{arith}
+use lib.ListN.{drop}
+use borrow.Author.Rules.{rules}
+use Rattle.key_test.proofs.seen_in.Given as goal
+
+-- the search from here on finds what the search from the start finds
+pub record Searched (p rows : List ℕ) (first own gap skip i : ℕ) : Type 0 where
+  pub from : first ≤ i
+  pub upto : i ≤ own
+  pub small : skip ≤ (2 * most_rows + 1) * (i - first)
+  pub found :
+      seen_in p (drop (row_width * own) rows) gap 0 (own - first) (drop (row_width * first) rows)
+      ≡ seen_in p (drop (row_width * own) rows) gap skip (own - i) (drop (row_width * i) rows)
+
+abbrev pub invariant-loop-i : goal.invariant-loop-i
+invariant-loop-i l = Searched l.bytes l.rows l.first l.own l.gap l.skip l.i
+
+abbrev pub decreases-loop-i : goal.decreases-loop-i
+decreases-loop-i l = l.own - l.i

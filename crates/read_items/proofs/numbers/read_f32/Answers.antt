@@ -1,0 +1,21 @@
+-- `read_f32` meets its contract: four bytes are one body, or the bytes end.
+use Rattle.payload.specs.Numbers.{read_number}
+use Rattle.cursor.specs.Laws.Body.{was_body, was_short}
+use Rattle.read_items.specs.Laws.Numbers.{reads_float, reads_float_end}
+use native.Mathlib.Omega.{arith}
+use borrow.Author.Rules.{rules}
+use Rattle.read_items.proofs.numbers.read_f32.Goals as goal
+
+pub half-requires : goal.half-requires
+half-requires c = let b = was_body _ _ 4 c.read_body.ensures c.in-At.is in omega (arith, b.0, b.2)
+
+pub returns-in-At : goal.returns-in-At
+unfolding read_number
+returns-in-At c =
+    let b = was_body _ _ 4 c.read_body.ensures c.in-At.is in rw (c.half.ensures.0, b.0, b.1) (reads_float 4 b.2)
+
+pub returns-in-Short : goal.returns-in-Short
+unfolding read_number
+returns-in-Short c =
+    let pre = c.requires in
+    let b = was_short _ _ 4 c.read_body.ensures c.in-Short.is in rw b.0 (reads_float_end 4 b.1 pre)
