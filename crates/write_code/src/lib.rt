@@ -1,4 +1,6 @@
 // A chunk's code, and its spans as maximal runs.
+#![tactic(auto)]
+
 ghost use Rattle.std.specs.Prelude.{◌≡◌, ◌+◌, ◌/◌, ◌^◌, ◌<◌, ◌≤◌, true, [], ◌∷◌, ◌++◌, length, pos, ◌-ℤ◌, if◌then◌else◌};
 ghost use Rattle.varint.specs.Uleb128.{uleb128};
 ghost use Rattle.signed.specs.Signed.{zigzag_of};

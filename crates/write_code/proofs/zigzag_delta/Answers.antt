@@ -4,8 +4,7 @@ use lib.IntN.{sub_ℕ}
 use lib.Signed.{mag}
 use mir.Facts.{to_z_pos}
 use Rattle.signed.specs.Signed.{zigzag_of}
-use Rattle.write_code.proofs.zigzag_delta.Statement.{statement}
-use Rattle.write_code.proofs.zigzag_delta.Tie as tie
+use Rattle.write_code.proofs.zigzag_delta.Goals as goal
 
 small : (a b : ℕ) → a < 2 ^ 63 → b < 2 ^ 63 → mag (pos a -ℤ pos b) < 2 ^ 63
 small a zero h l = omega arith
@@ -18,15 +17,11 @@ small a (suc b) h l = go (ltb a (suc b)) refl
 apart : (a b : ℕ) → a < 2 ^ 63 → b < 2 ^ 63 → SFits w64 (to_z w64 a -ℤ to_z w64 b)
 apart a b h l = record { sfits = rw (to_z_pos w64 h, to_z_pos w64 l) (small a b h l) }
 
-sub_zigzag : tie.Need-overflow-sub-zigzag
-sub_zigzag c = apart c.args.new c.args.old c.requires.1 c.requires.0
+pub overflow_sub-new : goal.overflow_sub-new
+overflow_sub-new c = apart c.args.new c.args.old c.requires.1 c.requires.0
 
-returns : tie.Need-returns
+pub returns : goal.returns
 returns c =
-    let h = c.before.requires in
+    let h = c.requires in
     c.zigzag.ensures
-    ∙ ap zigzag_of (to_z-of_z (apart c.before.args.new c.before.args.old h.1 h.0) ∙ ap₂ ◌-ℤ◌ (to_z_pos w64 h.1) (to_z_pos w64 h.0))
-
-pub zigzag_delta_spec : {M : Type 1} → statement M
-zigzag_delta_spec =
-    tie.close (tie.spec (λ c. search rules) (λ c. search rules) sub_zigzag (λ c κs. search rules) returns)
+    ∙ ap zigzag_of (to_z-of_z (apart c.args.new c.args.old h.1 h.0) ∙ ap₂ ◌-ℤ◌ (to_z_pos w64 h.1) (to_z_pos w64 h.0))

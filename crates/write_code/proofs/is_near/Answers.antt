@@ -4,8 +4,7 @@ use lib.IntN.{sub_ℕ}
 use Rattle.varint.specs.Laws.Uleb128.{uleb_small}
 use Rattle.signed.specs.Signed.{zigzag_of}
 use Rattle.payload.specs.Spans.{write_delta}
-use Rattle.write_code.proofs.is_near.Statement.{statement}
-use Rattle.write_code.proofs.is_near.Tie as tie
+use Rattle.write_code.proofs.is_near.Goals as goal
 
 below : (o n : ℕ) → o ≤ n + 64 → n < o + 64 → zigzag_of (sub_ℕ n o) < 128
 below o n h l = go (ltb n o) refl
@@ -22,11 +21,8 @@ near (suc o) n h l = ap length (uleb_small _ (below (suc o) n h l))
 wrapped : (o n w : ℕ) → o < 2 ^ 63 → n < 2 ^ 63 → (w + o) % 2 ^ 64 ≡ n + 64 → w < 128 → (o ≤ n + 64) × (n < o + 64)
 wrapped o n w h l e g = (omega arith, omega arith)
 
-returns : tie.Need-returns
+pub returns : goal.returns
 returns c e =
-    let a = c.before.args in
-    let h = wrapped a.old a.new c.wrapping-sub-u64.result c.before.requires.0 c.before.requires.1 c.wrapping-sub-u64.ensures (ltb-true _ _ e) in
+    let a = c.args in
+    let h = wrapped a.old a.new c.wrapping_sub_u64.result c.requires.0 c.requires.1 c.wrapping_sub_u64.ensures.value (ltb-true _ _ e) in
     near a.old a.new h.0 h.1
-
-pub is_near_spec : {M : Type 1} → statement M
-is_near_spec = tie.close (tie.spec (λ c. search rules) (λ c κs. search rules) returns)

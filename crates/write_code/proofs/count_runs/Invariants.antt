@@ -1,0 +1,11 @@
+use Rattle.std.proofs.Common.{◌-◌, ◌*◌, ◌/◌, true, false, length, drop, ⊎_elim, arith, rules}
+use Rattle.payload.specs.Sound.{spans_of}
+use Rattle.payload.specs.Spans.{runs_of}
+use Rattle.write_code.specs.Laws.Runs.{Counted, counted_next, counted_end, counted_none}
+use Rattle.write_code.proofs.count_runs.Given as goal
+
+abbrev pub invariant-loop-k : goal.invariant-loop-k
+invariant-loop-k l = Counted (length l.spans / 2 - 1) l.k l.n (length (runs_of (spans_of l.spans))) (length (runs_of (spans_of (drop (2 * l.k) l.spans))))
+
+abbrev pub decreases-loop-k : goal.decreases-loop-k
+decreases-loop-k l = length l.spans / 2 - l.k
