@@ -7,14 +7,14 @@ ghost use Rattle.cursor.specs.Body.{body_of};
 
 use varint::Varint;
 
-#[derive(Drop)]
+#[derive(Clone, Copy)]
 pub struct Cursor<'a> {
     pub payload: &'a [u8],
     pub at: usize,
 }
 
 // A body's first byte and the place after it, or the place where too few bytes are left.
-#[derive(Drop)]
+#[derive(Clone, Copy)]
 pub enum Body {
     At(usize, usize),
     Short(usize),

@@ -17,7 +17,7 @@ pub enum LineIndex {
 }
 
 // What a line query answers: line and column, both from 1, or a refusal's number and place.
-#[derive(Drop)]
+#[derive(Clone, Copy)]
 pub enum LineCol {
     At(usize, u64),
     Refused(u64, usize),

@@ -7,7 +7,7 @@ ghost use Rattle.payload.specs.Shapes.{depth_limit};
 ghost use Rattle.payload.specs.Tables.{capacities_of, limits, size_limit};
 
 // How many rows, spans, strings and starts there is room for.
-#[derive(Drop)]
+#[derive(Clone, Copy)]
 pub struct Capacities {
     pub rows: usize,
     pub spans: usize,
@@ -16,7 +16,7 @@ pub struct Capacities {
 }
 
 // What a read or a check that is accepted answers: bytes consumed, used rows, spans, starts and strings, the line flag and the name's offset and length.
-#[derive(Drop)]
+#[derive(Clone, Copy)]
 pub struct Counts {
     pub consumed: usize,
     pub rows: usize,
@@ -29,21 +29,21 @@ pub struct Counts {
 }
 
 // A read's answer: accepted, or a refusal's number and place.
-#[derive(Drop)]
+#[derive(Clone, Copy)]
 pub enum Read {
     Accepted(Counts),
     Refused(u64, usize),
 }
 
 // A write's answer: accepted with the writing's length, or a refusal's number and place.
-#[derive(Drop)]
+#[derive(Clone, Copy)]
 pub enum Written {
     Accepted(usize),
     Refused(u64, usize),
 }
 
 // A program held in lent tables: how many rows, spans and starts are used, the line flag, and the line index's name in the store.
-#[derive(Drop)]
+#[derive(Clone, Copy)]
 pub struct Program {
     pub rows: usize,
     pub spans: usize,

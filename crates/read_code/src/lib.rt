@@ -10,27 +10,27 @@ use read_items::{Number, PositionAt, items, positions};
 use signed::Position;
 
 // Code: its offset, its length and the place after its runs; or a refusal's number and place.
-#[derive(Drop)]
+#[derive(Clone, Copy)]
 pub enum CodeAt {
     Code(usize, usize, usize),
     Refused(u64, usize),
 }
 
 // A run's start, end and count and the place after it, or a refusal's number and place.
-#[derive(Drop)]
+#[derive(Clone, Copy)]
 enum RunAt {
     Run(i64, i64, u64, usize),
     Refused(u64, usize),
 }
 
 // The place after the runs of a code, or a refusal's number and place.
-#[derive(Drop)]
+#[derive(Clone, Copy)]
 enum RunsAt {
     End(usize),
     Refused(u64, usize),
 }
 
-#[derive(Drop)]
+#[derive(Clone, Copy)]
 struct Refusal {
     number: u64,
     place: usize,

@@ -11,7 +11,7 @@ ghost use Rattle.read_heads.specs.declared.Head.TheVariants.{Row};
 use read_items::{Cut, HINT_BASE, Number, PartAt, items, numbers};
 
 // Rows that are read alike.
-#[derive(Drop)]
+#[derive(Clone, Copy)]
 pub enum Class {
     Empty,
     Varint(Cut),
@@ -34,7 +34,7 @@ pub enum Class {
 }
 
 // A row's four words after the tag, the count of what follows, and the place after the head; or a refusal's number and place.
-#[derive(Drop)]
+#[derive(Clone, Copy)]
 pub enum Head {
     Row {
         a: u64,

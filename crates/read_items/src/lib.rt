@@ -6,14 +6,14 @@ pub mod numbers;
 pub mod positions;
 
 // A number and the place after it, or a refusal's number and place.
-#[derive(Drop)]
+#[derive(Clone, Copy)]
 pub enum Number {
     Read(u64, usize),
     Refused(u64, usize),
 }
 
 // A running position and the place after its delta, or a refusal's number and place.
-#[derive(Drop)]
+#[derive(Clone, Copy)]
 pub enum PositionAt {
     Position(i64, usize),
     Refused(u64, usize),
@@ -24,14 +24,14 @@ pub enum PositionAt {
 pub const HINT_BASE: u64 = 0x200_0000;
 
 // A string's offset and length and the place after its pool index, or a refusal's number and place.
-#[derive(Drop)]
+#[derive(Clone, Copy)]
 pub enum PartAt {
     Part(u64, u64, usize),
     Refused(u64, usize),
 }
 
 // The kinds of number that are a varint, cut.
-#[derive(Drop)]
+#[derive(Clone, Copy)]
 pub enum Cut {
     U64,
     U32,

@@ -8,7 +8,7 @@ ghost use Rattle.read_lines.specs.Starts.{StartsRead};
 use read_items::{Number, PartAt, PositionAt, items, positions};
 
 // A line index that was read, or that there is none: its flag, its name's offset and length, the count of its starts and the place after it.
-#[derive(Drop)]
+#[derive(Clone, Copy)]
 pub struct LineIndexAt {
     pub flag: u64,
     pub name_o: usize,
@@ -18,14 +18,14 @@ pub struct LineIndexAt {
 }
 
 // A line index, or a refusal's number and place.
-#[derive(Drop)]
+#[derive(Clone, Copy)]
 pub enum LinesAt {
     Lines(LineIndexAt),
     Refused(u64, usize),
 }
 
 // The count of the starts and the place after them, or a refusal's number and place.
-#[derive(Drop)]
+#[derive(Clone, Copy)]
 enum StartsAt {
     Starts(usize, usize),
     Refused(u64, usize),

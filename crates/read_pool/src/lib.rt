@@ -9,14 +9,14 @@ use cursor::Body;
 use read_items::{Number, items};
 
 // The count of the strings and the place after the pool, or a refusal's number and place.
-#[derive(Drop)]
+#[derive(Clone, Copy)]
 pub enum PoolAt {
     Pool(usize, usize),
     Refused(u64, usize),
 }
 
 // A string's offset and length, or a refusal's number and place.
-#[derive(Drop)]
+#[derive(Clone, Copy)]
 enum StringAt {
     Body(usize, usize),
     Refused(u64, usize),

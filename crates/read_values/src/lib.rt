@@ -11,7 +11,7 @@ ghost use Rattle.read_values.specs.State.{start_at};
 use payload::{Capacities, Program};
 
 // The next unread byte, and the rows and spans used.
-#[derive(Drop)]
+#[derive(Clone, Copy)]
 pub struct State {
     pub at: usize,
     pub rows: usize,
@@ -19,7 +19,7 @@ pub struct State {
 }
 
 // The state after a part that was read, or a refusal's number and place.
-#[derive(Drop)]
+#[derive(Clone, Copy)]
 pub enum Step {
     Done(State),
     Refused(u64, usize),

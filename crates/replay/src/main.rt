@@ -124,7 +124,7 @@ fn first(name: &[u8], records: &[u8]) -> usize {
 }
 
 // Where the records end that agree, and how many they are.
-#[derive(Drop)]
+#[derive(Clone, Copy)]
 struct Agreed {
     end: usize,
     count: u64,

@@ -7,7 +7,7 @@ ghost use Rattle.std.specs.Float.{binary32, binary64};
 ghost use Rattle.scalar.specs.Scalar.{const_of, float_of, row_of, sfloat_of, words_of};
 
 // The scalar cases of the Rust's VmValue.
-#[derive(Drop)]
+#[derive(Clone, Copy)]
 pub enum Scalar {
     Null,
     Int(i64),
@@ -26,7 +26,7 @@ pub enum Scalar {
 }
 
 // What a row's words hold. A float keeps no NaN's bits, so those stand beside the fourteen cases. Other is no scalar.
-#[derive(Drop)]
+#[derive(Clone, Copy)]
 pub enum Constant {
     Value(Scalar),
     NanBits(u64),
@@ -35,7 +35,7 @@ pub enum Constant {
 }
 
 // A scalar's row: its tag, and the two words that a scalar can use.
-#[derive(Drop)]
+#[derive(Clone, Copy)]
 pub struct Words {
     pub tag: u64,
     pub a: u64,

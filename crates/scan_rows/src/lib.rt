@@ -18,14 +18,14 @@ ghost use Rattle.scan_rows.specs.Fits.{number_fits, words_fit};
 use payload::Program;
 
 // The row after what was scanned, or the first row that breaks a rule.
-#[derive(Drop)]
+#[derive(Clone, Copy)]
 enum Scan {
     Next(usize),
     Bad(usize),
 }
 
 // The row that breaks a rule, or the row count.
-#[derive(Drop)]
+#[derive(Clone, Copy)]
 pub enum Soundness {
     Sound,
     Unsound(usize),

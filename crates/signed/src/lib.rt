@@ -55,7 +55,7 @@ pub fn cut_signed(u: u64, bits: u64) -> u64
 }
 
 // Where a delta leads: to a position, or out of 64 signed bits.
-#[derive(Drop)]
+#[derive(Clone, Copy)]
 pub enum Position {
     At(i64),
     OutOfRange,

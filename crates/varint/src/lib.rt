@@ -34,7 +34,7 @@ pub fn write_uvarint(out: &mut [u8], at: usize, n: u64) -> usize
 }
 
 // What reading a varint finds: the number and the place after it, or the refusal and its place.
-#[derive(Drop)]
+#[derive(Clone, Copy)]
 pub enum Varint {
     Number(u64, usize),
     Refused(u64, usize),

@@ -23,7 +23,7 @@ use payload::Program;
 const WALK_DEPTH: usize = 2 * Program::DEPTH + 1;
 
 // The next row, the next span, the place in the payload, and the pool index that the next string is expected to have.
-#[derive(Drop)]
+#[derive(Clone, Copy)]
 struct Place {
     row: usize,
     span: usize,
@@ -32,7 +32,7 @@ struct Place {
 }
 
 // The place in the payload, and the pool index expected next.
-#[derive(Drop)]
+#[derive(Clone, Copy)]
 struct Step {
     at: usize,
     expected: usize,
