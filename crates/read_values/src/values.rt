@@ -18,7 +18,7 @@ use read_items::{Number, items};
 const LAST_TAG: u64 = 26;
 
 // A value, with `left` levels left.
-#[cycle(read_chunk_read_closure_read_entries_read_field_read_fields_read_gap_read_under_read_value_read_values)]
+#[cycle(values)]
 pub fn read_value(
     left: usize,
     capacities: Capacities,
@@ -86,7 +86,7 @@ pub fn read_value(
 }
 
 // What stands under a row that has been stored, of a value that is neither a function nor a closure.
-#[cycle(read_chunk_read_closure_read_entries_read_field_read_fields_read_gap_read_under_read_value_read_values)]
+#[cycle(values)]
 fn read_under(
     left: usize,
     tag: u64,
@@ -126,7 +126,7 @@ fn read_under(
 }
 
 // `count` values.
-#[cycle(read_chunk_read_closure_read_entries_read_field_read_fields_read_gap_read_under_read_value_read_values)]
+#[cycle(values)]
 fn read_values(
     left: usize,
     count: u64,
@@ -160,7 +160,7 @@ fn read_values(
 }
 
 // `count` fields of a record.
-#[cycle(read_chunk_read_closure_read_entries_read_field_read_fields_read_gap_read_under_read_value_read_values)]
+#[cycle(values)]
 fn read_fields(
     left: usize,
     count: u64,
@@ -194,7 +194,7 @@ fn read_fields(
 }
 
 // A field row, and its value.
-#[cycle(read_chunk_read_closure_read_entries_read_field_read_fields_read_gap_read_under_read_value_read_values)]
+#[cycle(values)]
 fn read_field(
     left: usize,
     capacities: Capacities,
@@ -232,7 +232,7 @@ fn read_field(
 }
 
 // A closure after its tag: its template, then its row, which stands before the template's, then the captured values.
-#[cycle(read_chunk_read_closure_read_entries_read_field_read_fields_read_gap_read_under_read_value_read_values)]
+#[cycle(values)]
 fn read_closure(
     left: usize,
     capacities: Capacities,
@@ -285,7 +285,7 @@ fn read_closure(
 }
 
 // A chunk row: its code and spans, and its constants.
-#[cycle(read_chunk_read_closure_read_entries_read_field_read_fields_read_gap_read_under_read_value_read_values)]
+#[cycle(values)]
 pub fn read_chunk(
     left: usize,
     capacities: Capacities,
@@ -327,7 +327,7 @@ pub fn read_chunk(
 }
 
 // `count` entries: elements of a set (`gap` 0) or pairs of a map (`gap` 1), each key tested after the `gap` values that follow it.
-#[cycle(read_chunk_read_closure_read_entries_read_field_read_fields_read_gap_read_under_read_value_read_values)]
+#[cycle(values)]
 fn read_entries(
     left: usize,
     gap: u64,
@@ -375,7 +375,7 @@ fn read_entries(
 }
 
 // The values between a key and the next: none or one.
-#[cycle(read_chunk_read_closure_read_entries_read_field_read_fields_read_gap_read_under_read_value_read_values)]
+#[cycle(values)]
 fn read_gap(
     left: usize,
     gap: u64,

@@ -273,7 +273,7 @@ fn is_new_key(store: &[u8], rows: &[u64], width: u64, first: usize, i: usize) ->
 // ---- the scan: a value, and what can be under a row
 
 // A value with `depth` levels left.
-#[cycle(scan_entries_scan_fields_scan_template_scan_under_scan_untagged_scan_value_scan_values)]
+#[cycle(scan)]
 fn scan_value(depth: usize, store: &[u8], rows: &[u64], i: usize) -> Scan
     requires { WholeRows rows.now }
     ensures { Scanned rows.now 1 i result (scan_value store.now depth any_row (at_row rows.now i)) }
@@ -294,7 +294,7 @@ fn scan_value(depth: usize, store: &[u8], rows: &[u64], i: usize) -> Scan
 }
 
 // The rows under row i, by its rules.
-#[cycle(scan_entries_scan_fields_scan_template_scan_under_scan_untagged_scan_value_scan_values)]
+#[cycle(scan)]
 fn scan_under(depth: usize, store: &[u8], rows: &[u64], i: usize) -> Scan
     requires whole_rows { WholeRows rows.now }
     requires i_bound { i < row_count rows.now }
@@ -328,7 +328,7 @@ fn scan_under(depth: usize, store: &[u8], rows: &[u64], i: usize) -> Scan
     scan_values(depth, store, rows, n, i + 1)
 }
 
-#[cycle(scan_entries_scan_fields_scan_template_scan_under_scan_untagged_scan_value_scan_values)]
+#[cycle(scan)]
 fn scan_values(depth: usize, store: &[u8], rows: &[u64], n: u64, i: usize) -> Scan
     requires { WholeRows rows.now }
     ensures { Scanned rows.now n i result (read_many n (scan_value store.now depth any_row) (at_row rows.now i)) }
@@ -350,7 +350,7 @@ fn scan_values(depth: usize, store: &[u8], rows: &[u64], n: u64, i: usize) -> Sc
 }
 
 // The entries of a set (width 1) or of a map (width 2).
-#[cycle(scan_entries_scan_fields_scan_template_scan_under_scan_untagged_scan_value_scan_values)]
+#[cycle(scan)]
 fn scan_entries(depth: usize, store: &[u8], rows: &[u64], width: u64, n: u64, i: usize) -> Scan
     requires whole_rows { WholeRows rows.now }
     requires le_width { (1 ≤ width) × (width ≤ 2) }
@@ -379,7 +379,7 @@ fn scan_entries(depth: usize, store: &[u8], rows: &[u64], width: u64, n: u64, i:
 }
 
 // A chunk row (32) or a field row (33), and what is under it.
-#[cycle(scan_entries_scan_fields_scan_template_scan_under_scan_untagged_scan_value_scan_values)]
+#[cycle(scan)]
 fn scan_untagged(depth: usize, store: &[u8], rows: &[u64], tag: u64, i: usize) -> Scan
     requires whole_rows { WholeRows rows.now }
     requires le_tag { (32 ≤ tag) × (tag ≤ 33) }
@@ -394,7 +394,7 @@ fn scan_untagged(depth: usize, store: &[u8], rows: &[u64], tag: u64, i: usize) -
     scan_values(depth, store, rows, 1, i + 1)
 }
 
-#[cycle(scan_entries_scan_fields_scan_template_scan_under_scan_untagged_scan_value_scan_values)]
+#[cycle(scan)]
 fn scan_fields(depth: usize, store: &[u8], rows: &[u64], n: u64, i: usize) -> Scan
     requires { WholeRows rows.now }
     ensures { Scanned rows.now n i result (read_many n (scan_field store.now (scan_value store.now depth)) (at_row rows.now i)) }
@@ -416,7 +416,7 @@ fn scan_fields(depth: usize, store: &[u8], rows: &[u64], n: u64, i: usize) -> Sc
 }
 
 // A closure's function, and then its values.
-#[cycle(scan_entries_scan_fields_scan_template_scan_under_scan_untagged_scan_value_scan_values)]
+#[cycle(scan)]
 fn scan_template(depth: usize, store: &[u8], rows: &[u64], n: u64, i: usize) -> Scan
     requires { WholeRows rows.now }
     ensures { Scanned rows.now (n + 1) i result (scan_template (scan_value store.now depth) n (at_row rows.now i)) }

@@ -441,7 +441,7 @@ fn rows_under(rows: &[u64], i: usize) -> u64
 
 // ---- the walk: a row, and so many rows, each with those under them
 
-#[cycle(write_row_write_rows)]
+#[cycle(rows)]
 fn write_row(
     depth: usize,
     comparing: bool,
@@ -530,7 +530,7 @@ fn write_row(
     )
 }
 
-#[cycle(write_row_write_rows)]
+#[cycle(rows)]
 fn write_rows(
     depth: usize,
     comparing: bool,

@@ -10,10 +10,10 @@ use Rattle.payload.specs.Reading.{read_value}
 use Rattle.read_values.specs.Did.{context}
 use borrow.Author.Rules.{rules}
 use Rattle.read_values.proofs.values.read_entries.Reads as read-entries
-use Rattle.read_values.proofs.values.+read_chunk_read_closure_read_entries_read_field_read_fields_read_gap_read_under_read_value_read_values.Lts-read_entries as read-entries-lts
+use Rattle.read_values.proofs.values.+values.Lts-read_entries as read-entries-lts
 use Rattle.read_values.proofs.values.read_gap.Reads as read-gap
 use Rattle.read_values.proofs.values.read_value.Reads as read-value
-use Rattle.read_values.proofs.values.+read_chunk_read_closure_read_entries_read_field_read_fields_read_gap_read_under_read_value_read_values.Proof.Common.{read_entries_at, read_entries_known}
+use Rattle.read_values.proofs.values.+values.Proof.Common.{read_entries_at, read_entries_known}
 
 abbrev read_entries_Inv_loop : read-entries-lts.invariant_loop
 read_entries_Inv_loop left gap count capacities bytes names pool rows₀ spans₀ first now₀ k₀ rows spans now k =

@@ -3,9 +3,9 @@ use Prim.Native.Nat.{◌-◌, ℕ}
 use borrow.Author.Rules.{rules}
 use Rattle.payload.specs.Scan.{any_row, scan_value}
 use Rattle.scan_rows.specs.Laws.Found.{Many, many_start, many_stop, many_more, many_done}
-use Rattle.scan_rows.proofs.+scan_entries_scan_fields_scan_template_scan_under_scan_untagged_scan_value_scan_values.Proof.Common.{scan_values_at, scan_values_known}
+use Rattle.scan_rows.proofs.+scan.Proof.Common.{scan_values_at, scan_values_known}
 use Rattle.scan_rows.proofs.scan_values.Reads as scan-values
-use Rattle.scan_rows.proofs.+scan_entries_scan_fields_scan_template_scan_under_scan_untagged_scan_value_scan_values.Lts-scan_values as scan-values-lts
+use Rattle.scan_rows.proofs.+scan.Lts-scan_values as scan-values-lts
 
 abbrev scan_values_Inv_loop : scan-values-lts.invariant_loop
 scan_values_Inv_loop depth store rows n i at₀ k₀ at k = Many rows (scan_value store depth any_row) n i k at

@@ -8,8 +8,8 @@ use Rattle.read_values.specs.Under.{field_row}
 use borrow.Author.Rules.{rules}
 use Rattle.read_values.proofs.values.read_field.Reads as read-field
 use Rattle.read_values.proofs.values.read_fields.Reads as read-fields
-use Rattle.read_values.proofs.values.+read_chunk_read_closure_read_entries_read_field_read_fields_read_gap_read_under_read_value_read_values.Lts-read_fields as read-fields-lts
-use Rattle.read_values.proofs.values.+read_chunk_read_closure_read_entries_read_field_read_fields_read_gap_read_under_read_value_read_values.Proof.Common.{read_fields_at, read_fields_known}
+use Rattle.read_values.proofs.values.+values.Lts-read_fields as read-fields-lts
+use Rattle.read_values.proofs.values.+values.Proof.Common.{read_fields_at, read_fields_known}
 
 abbrev read_fields_Inv_loop : read-fields-lts.invariant_loop
 read_fields_Inv_loop left count capacities bytes names pool rows₀ spans₀ now₀ k₀ rows spans now k =

@@ -14,9 +14,9 @@ use borrow.Author.Rules.{rules}
 use Prim.Native.Nat.{ℕ}
 use borrow.Fn.PlainCycle.{is}
 use Rattle.read_values.proofs.values.read_field.Reads as read-field
-use Rattle.read_values.proofs.values.+read_chunk_read_closure_read_entries_read_field_read_fields_read_gap_read_under_read_value_read_values.Lts-read_field as read-field-lts
+use Rattle.read_values.proofs.values.+values.Lts-read_field as read-field-lts
 use Rattle.read_values.proofs.values.read_values.Reads as read-values
-use Rattle.read_values.proofs.values.+read_chunk_read_closure_read_entries_read_field_read_fields_read_gap_read_under_read_value_read_values.Proof.Common.{read_field_at, read_field_known}
+use Rattle.read_values.proofs.values.+values.Proof.Common.{read_field_at, read_field_known}
 
 read_field_returns : (t : ℕ) → read-field-lts.Need-returns (read_field_known t) (read_field_at t) read-field.Post
 unfolding context_of

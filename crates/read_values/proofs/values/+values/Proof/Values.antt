@@ -7,8 +7,8 @@ use Rattle.read_values.specs.Did.{context}
 use borrow.Author.Rules.{rules}
 use Rattle.read_values.proofs.values.read_value.Reads as read-value
 use Rattle.read_values.proofs.values.read_values.Reads as read-values
-use Rattle.read_values.proofs.values.+read_chunk_read_closure_read_entries_read_field_read_fields_read_gap_read_under_read_value_read_values.Lts-read_values as read-values-lts
-use Rattle.read_values.proofs.values.+read_chunk_read_closure_read_entries_read_field_read_fields_read_gap_read_under_read_value_read_values.Proof.Common.{read_values_at, read_values_known}
+use Rattle.read_values.proofs.values.+values.Lts-read_values as read-values-lts
+use Rattle.read_values.proofs.values.+values.Proof.Common.{read_values_at, read_values_known}
 
 abbrev read_values_Inv_loop : read-values-lts.invariant_loop
 read_values_Inv_loop left count capacities bytes names pool rows₀ spans₀ now₀ k₀ rows spans now k =

@@ -10,9 +10,9 @@ use Rattle.read_values.proofs.Value.{code_of, did_chunk, no_chunk, no_code_lem, 
 use borrow.Author.Rules.{rules}
 use Prim.Native.Nat.{ℕ}
 use Rattle.read_values.proofs.values.read_chunk.Reads as read-chunk
-use Rattle.read_values.proofs.values.+read_chunk_read_closure_read_entries_read_field_read_fields_read_gap_read_under_read_value_read_values.Lts-read_chunk as read-chunk-lts
+use Rattle.read_values.proofs.values.+values.Lts-read_chunk as read-chunk-lts
 use Rattle.read_values.proofs.values.read_values.Reads as read-values
-use Rattle.read_values.proofs.values.+read_chunk_read_closure_read_entries_read_field_read_fields_read_gap_read_under_read_value_read_values.Proof.Common.{read_chunk_at, read_chunk_known}
+use Rattle.read_values.proofs.values.+values.Proof.Common.{read_chunk_at, read_chunk_known}
 
 read_chunk_returns : (t : ℕ) → read-chunk-lts.Need-returns (read_chunk_known t) (read_chunk_at t) read-chunk.Post
 unfolding context_of

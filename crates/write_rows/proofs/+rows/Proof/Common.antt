@@ -4,10 +4,10 @@ use borrow.Fn.Kinds.{In}
 use borrow.Fn.PlainCycle.{Measures, is, falls, and}
 use Rattle.write_rows.proofs.write_row.Reads as write-row
 use Rattle.write_rows.proofs.write_row.Kinds as write-row-kinds
-use Rattle.write_rows.proofs.+write_row_write_rows.Lts-write_row as write-row-lts
+use Rattle.write_rows.proofs.+rows.Lts-write_row as write-row-lts
 use Rattle.write_rows.proofs.write_rows.Reads as write-rows
 use Rattle.write_rows.proofs.write_rows.Kinds as write-rows-kinds
-use Rattle.write_rows.proofs.+write_row_write_rows.Lts-write_rows as write-rows-lts
+use Rattle.write_rows.proofs.+rows.Lts-write_rows as write-rows-lts
 use Rattle.row_layout.proofs.under_form.Reads as under-form-reads
 use Rattle.write_rows.proofs.rows_under.Reads as rows-under-reads
 use Rattle.write_rows.proofs.span_after.Reads as span-after-reads

@@ -5,9 +5,9 @@ use Rattle.payload.specs.Scan.{scan_value}
 use Rattle.scan_rows.specs.Laws.Found.{Many, many_start, many_stop, many_more, many_done}
 use Rattle.scan_rows.specs.Laws.Members.{field_row_lem}
 use Rattle.scan_rows.specs.Under.{scan_field}
-use Rattle.scan_rows.proofs.+scan_entries_scan_fields_scan_template_scan_under_scan_untagged_scan_value_scan_values.Proof.Common.{scan_fields_at, scan_fields_known}
+use Rattle.scan_rows.proofs.+scan.Proof.Common.{scan_fields_at, scan_fields_known}
 use Rattle.scan_rows.proofs.scan_fields.Reads as scan-fields
-use Rattle.scan_rows.proofs.+scan_entries_scan_fields_scan_template_scan_under_scan_untagged_scan_value_scan_values.Lts-scan_fields as scan-fields-lts
+use Rattle.scan_rows.proofs.+scan.Lts-scan_fields as scan-fields-lts
 
 abbrev scan_fields_Inv_loop : scan-fields-lts.invariant_loop
 scan_fields_Inv_loop depth store rows n i at₀ k₀ at k = Many rows (scan_field store (scan_value store depth)) n i k at

@@ -4,9 +4,9 @@ use Rattle.read_values.proofs.Loop.{did_gap_none, did_gap_one}
 use borrow.Author.Rules.{rules}
 use Prim.Native.Nat.{ℕ}
 use Rattle.read_values.proofs.values.read_gap.Reads as read-gap
-use Rattle.read_values.proofs.values.+read_chunk_read_closure_read_entries_read_field_read_fields_read_gap_read_under_read_value_read_values.Lts-read_gap as read-gap-lts
+use Rattle.read_values.proofs.values.+values.Lts-read_gap as read-gap-lts
 use Rattle.read_values.proofs.values.read_value.Reads as read-value
-use Rattle.read_values.proofs.values.+read_chunk_read_closure_read_entries_read_field_read_fields_read_gap_read_under_read_value_read_values.Proof.Common.{read_gap_at, read_gap_known}
+use Rattle.read_values.proofs.values.+values.Proof.Common.{read_gap_at, read_gap_known}
 
 read_gap_returns :
     (t : ℕ) →

@@ -10,9 +10,9 @@ use Rattle.row_layout.specs.Layout.{under_form}
 use Rattle.write_rows.specs.Laws.Leaf.{leaf_reached}
 use Rattle.write_rows.specs.Laws.Walk.{Loop, reached_none, loop_start, loop_next, loop_end, loop_past}
 use Rattle.write_rows.specs.Walk.{held, walk_next, walk}
-use Rattle.write_rows.proofs.+write_row_write_rows.Proof.Common.{write_rows_at, write_rows_known}
+use Rattle.write_rows.proofs.+rows.Proof.Common.{write_rows_at, write_rows_known}
 use Rattle.write_rows.proofs.write_rows.Reads as write-rows
-use Rattle.write_rows.proofs.+write_row_write_rows.Lts-write_rows as write-rows-lts
+use Rattle.write_rows.proofs.+rows.Lts-write_rows as write-rows-lts
 
 abbrev write_rows_Inv_loop : write-rows-lts.invariant_loop
 write_rows_Inv_loop depth comparing payload out₀ store pool rows spans count under here₀ k₀ out here k =

@@ -4,9 +4,9 @@ use Prim.Native.Nat.{ℕ}
 use borrow.Author.Rules.{rules}
 use borrow.Author.Tests.{not-true, not-false}
 use Rattle.scan_rows.specs.Laws.Members.{no_function, function_unsound, function_found}
-use Rattle.scan_rows.proofs.+scan_entries_scan_fields_scan_template_scan_under_scan_untagged_scan_value_scan_values.Proof.Common.{scan_template_at, scan_template_known}
+use Rattle.scan_rows.proofs.+scan.Proof.Common.{scan_template_at, scan_template_known}
 use Rattle.scan_rows.proofs.scan_template.Reads as scan-template
-use Rattle.scan_rows.proofs.+scan_entries_scan_fields_scan_template_scan_under_scan_untagged_scan_value_scan_values.Lts-scan_template as scan-template-lts
+use Rattle.scan_rows.proofs.+scan.Lts-scan_template as scan-template-lts
 
 scan_template_returns : (t : ℕ) → scan-template-lts.Need-returns (scan_template_known t) (scan_template_at t) scan-template.Post
 scan_template_returns t c =

@@ -6,9 +6,9 @@ use borrow.Author.Rules.{rules}
 use borrow.Author.Tests.{not-true, not-false}
 use Rattle.payload.specs.Scan.{scan_value}
 use Rattle.scan_rows.specs.Laws.Members.{untagged_unfit, chunk_found, field_found, head_tag}
-use Rattle.scan_rows.proofs.+scan_entries_scan_fields_scan_template_scan_under_scan_untagged_scan_value_scan_values.Proof.Common.{scan_untagged_at, scan_untagged_known}
+use Rattle.scan_rows.proofs.+scan.Proof.Common.{scan_untagged_at, scan_untagged_known}
 use Rattle.scan_rows.proofs.scan_untagged.Reads as scan_untagged_lem
-use Rattle.scan_rows.proofs.+scan_entries_scan_fields_scan_template_scan_under_scan_untagged_scan_value_scan_values.Lts-scan_untagged as scan-untagged-lts
+use Rattle.scan_rows.proofs.+scan.Lts-scan_untagged as scan-untagged-lts
 
 scan_untagged_returns : (t : ℕ) → scan-untagged-lts.Need-returns (scan_untagged_known t) (scan_untagged_at t) scan_untagged_lem.Post
 scan_untagged_returns t c =

@@ -7,9 +7,9 @@ use Prim.Native.Nat.{ℕ}
 use Rattle.read_values.proofs.values.read_entries.Reads as read-entries
 use Rattle.read_values.proofs.values.read_fields.Reads as read-fields
 use Rattle.read_values.proofs.values.read_under.Reads as read_under
-use Rattle.read_values.proofs.values.+read_chunk_read_closure_read_entries_read_field_read_fields_read_gap_read_under_read_value_read_values.Lts-read_under as read-under-lts
+use Rattle.read_values.proofs.values.+values.Lts-read_under as read-under-lts
 use Rattle.read_values.proofs.values.read_values.Reads as read-values
-use Rattle.read_values.proofs.values.+read_chunk_read_closure_read_entries_read_field_read_fields_read_gap_read_under_read_value_read_values.Proof.Common.{read_under_at, read_under_known}
+use Rattle.read_values.proofs.values.+values.Proof.Common.{read_under_at, read_under_known}
 
 read_under_read_entries_requires : (t : ℕ) → read-under-lts.Need-read-entries-requires (read_under_known t) (read_under_at t) read_under.Post
 read_under_read_entries_requires t c κs =

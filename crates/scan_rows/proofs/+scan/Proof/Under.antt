@@ -15,9 +15,9 @@ use Rattle.scan_rows.specs.Laws.Members.{chunk_row_lem}
 use Rattle.scan_rows.specs.Laws.Value.{found_under, many_one}
 use Rattle.scan_rows.specs.Row.{word_at, at_row}
 use Rattle.scan_rows.specs.Under.{stay, under_by, scan_by, scan_chunk}
-use Rattle.scan_rows.proofs.+scan_entries_scan_fields_scan_template_scan_under_scan_untagged_scan_value_scan_values.Proof.Common.{scan_under_at, scan_under_known}
+use Rattle.scan_rows.proofs.+scan.Proof.Common.{scan_under_at, scan_under_known}
 use Rattle.scan_rows.proofs.scan_under.Reads as scan-under
-use Rattle.scan_rows.proofs.+scan_entries_scan_fields_scan_template_scan_under_scan_untagged_scan_value_scan_values.Lts-scan_under as scan-under-lts
+use Rattle.scan_rows.proofs.+scan.Lts-scan_under as scan-under-lts
 
 scan_under_returns : (t : ℕ) → scan-under-lts.Need-returns (scan_under_known t) (scan_under_at t) scan-under.Post
 unfolding under_by scan_by if◌then◌else◌ pure

@@ -19,10 +19,10 @@ use Rattle.read_values.proofs.Value.{did_closure, first_tag, no_row, row_of_lem,
 use borrow.Author.Rules.{rules}
 use borrow.Fn.PlainCycle.{is}
 use Rattle.read_values.proofs.values.read_closure.Reads as read-closure
-use Rattle.read_values.proofs.values.+read_chunk_read_closure_read_entries_read_field_read_fields_read_gap_read_under_read_value_read_values.Lts-read_closure as read-closure-lts
+use Rattle.read_values.proofs.values.+values.Lts-read_closure as read-closure-lts
 use Rattle.read_values.proofs.values.read_value.Reads as read-value
 use Rattle.read_values.proofs.values.read_values.Reads as read-values
-use Rattle.read_values.proofs.values.+read_chunk_read_closure_read_entries_read_field_read_fields_read_gap_read_under_read_value_read_values.Proof.Common.{read_closure_at, read_closure_known}
+use Rattle.read_values.proofs.values.+values.Proof.Common.{read_closure_at, read_closure_known}
 
 read_closure_with_row_requires : (t : ℕ) → read-closure-lts.Need-with-row-requires (read_closure_known t) (read_closure_at t) read-closure.Post
 read_closure_with_row_requires t c κs =

@@ -15,8 +15,8 @@ use borrow.Fn.PlainCycle.{is}
 use Rattle.read_values.proofs.values.read_closure.Reads as read-closure
 use Rattle.read_values.proofs.values.read_under.Reads as read_under
 use Rattle.read_values.proofs.values.read_value.Reads as read-value
-use Rattle.read_values.proofs.values.+read_chunk_read_closure_read_entries_read_field_read_fields_read_gap_read_under_read_value_read_values.Lts-read_value as read-value-lts
-use Rattle.read_values.proofs.values.+read_chunk_read_closure_read_entries_read_field_read_fields_read_gap_read_under_read_value_read_values.Proof.Common.{read_value_at, read_value_known}
+use Rattle.read_values.proofs.values.+values.Lts-read_value as read-value-lts
+use Rattle.read_values.proofs.values.+values.Proof.Common.{read_value_at, read_value_known}
 
 read_value_returns : (t : ℕ) → read-value-lts.Need-returns (read_value_known t) (read_value_at t) read-value.Post
 read_value_returns t c = record { out = value_end _ _ _ _ _ _ c.if1.true }

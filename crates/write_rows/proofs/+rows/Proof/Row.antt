@@ -9,9 +9,9 @@ use Rattle.emit.specs.Laws.Emit.{emitted_long, emitted_ready}
 use Rattle.row_layout.specs.Layout.{under_form}
 use Rattle.write_rows.specs.Laws.Walk.{writable_part, reached_long, after_within, head_reached, row_reached, row_none, closure_reached}
 use Rattle.write_rows.specs.Walk.{held, walk}
-use Rattle.write_rows.proofs.+write_row_write_rows.Proof.Common.{write_row_at, write_row_known}
+use Rattle.write_rows.proofs.+rows.Proof.Common.{write_row_at, write_row_known}
 use Rattle.write_rows.proofs.write_row.Reads as write-row
-use Rattle.write_rows.proofs.+write_row_write_rows.Lts-write_row as write-row-lts
+use Rattle.write_rows.proofs.+rows.Lts-write_row as write-row-lts
 
 write_row_span_after_requires : (t : ℕ) → write-row-lts.Need-span-after-requires (write_row_known t) (write_row_at t) write-row.Post
 write_row_span_after_requires t c κs =

@@ -5,9 +5,9 @@ use native.Mathlib.Omega.{arith}
 use borrow.Author.Rules.{rules}
 use borrow.Author.Tests.{not-true, not-false}
 use Rattle.scan_rows.specs.Laws.Members.{too_deep, past_rows, no_value_tag, unfit_row, value_found}
-use Rattle.scan_rows.proofs.+scan_entries_scan_fields_scan_template_scan_under_scan_untagged_scan_value_scan_values.Proof.Common.{scan_value_at, scan_value_known}
+use Rattle.scan_rows.proofs.+scan.Proof.Common.{scan_value_at, scan_value_known}
 use Rattle.scan_rows.proofs.scan_value.Reads as scan_value_lem
-use Rattle.scan_rows.proofs.+scan_entries_scan_fields_scan_template_scan_under_scan_untagged_scan_value_scan_values.Lts-scan_value as scan-value-lts
+use Rattle.scan_rows.proofs.+scan.Lts-scan_value as scan-value-lts
 
 scan_value_returns : (t : ℕ) → scan-value-lts.Need-returns (scan_value_known t) (scan_value_at t) scan_value_lem.Post
 scan_value_returns t c =

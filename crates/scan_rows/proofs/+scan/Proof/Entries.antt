@@ -8,9 +8,9 @@ use Rattle.payload.specs.Laws.Pool.{and_left}
 use Rattle.scan_rows.specs.Laws.Entries.{Keyed, keyed_start, keyed_deep, keyed_key_bad, keyed_next, keyed_value_bad, keyed_end}
 use Rattle.scan_rows.specs.Laws.Found.{next_of, bad_of}
 use Rattle.scan_rows.specs.Laws.Keys.{key_in}
-use Rattle.scan_rows.proofs.+scan_entries_scan_fields_scan_template_scan_under_scan_untagged_scan_value_scan_values.Proof.Common.{scan_entries_at, scan_entries_known}
+use Rattle.scan_rows.proofs.+scan.Proof.Common.{scan_entries_at, scan_entries_known}
 use Rattle.scan_rows.proofs.scan_entries.Reads as scan-entries
-use Rattle.scan_rows.proofs.+scan_entries_scan_fields_scan_template_scan_under_scan_untagged_scan_value_scan_values.Lts-scan_entries as scan-entries-lts
+use Rattle.scan_rows.proofs.+scan.Lts-scan_entries as scan-entries-lts
 
 abbrev scan_entries_Inv_loop : scan-entries-lts.invariant_loop
 scan_entries_Inv_loop depth store rows width n i at₀ k₀ at k = Keyed store rows width depth n i k at
