@@ -20,7 +20,6 @@ use Rattle.payload.specs.Sound.{is_nil}
 use Rattle.payload.specs.Spans.{Span}
 use Rattle.payload.specs.Trees.{Item, Node, Trees, code, forget_item, forget_items, forget_trees, kind_of, native_name, nil, node, number, record_name, single, size, span_count, span_item, span_items, string}
 use Rattle.row_layout.specs.Laws.Layout.{all_from, shape_all}
-use Rattle.utf8.specs.Utf8.{one}
 use Rattle.scan_rows.specs.Code.{code_at, code_total}
 use Rattle.scan_rows.specs.Row.{row_count}
 

@@ -2,7 +2,6 @@
 use Rattle.std.specs.Prelude.{Bool, ◌*◌, ◌+◌, ◌-◌, ◌<◌, ◌≤◌, suc, zero, ℕ, length}
 use Rattle.std.proofs.Math.Bool.{false, not, true}
 use mathlib.Core.List.{List, [], ◌++◌, ◌∷◌}
-use Rattle.std.proofs.Math.Option.{none}
 use Rattle.std.proofs.Common.{◌∙◌, ap, mul-suc, add-one, arith}
 use Rattle.std.proofs.Math.Path.{◌≡◌, refl, sym}
 use Rattle.std.proofs.Math.Dec.{eqb, leb, ltb}
@@ -18,7 +17,6 @@ use Rattle.payload.specs.Shapes.{Shape, is_key_tag, keys, no_value, one_value, p
 use Rattle.payload.specs.Trees.{Node, Trees, cons, forget_items, nil, node_of}
 use Rattle.row_layout.specs.Laws.Layout.{all_from, shape_all}
 use Rattle.slices.specs.Same.{same}
-use Rattle.utf8.specs.Utf8.{more, one}
 use Rattle.scan_rows.specs.Found.{Scanned}
 use Rattle.scan_rows.specs.Laws.Found.{Sofar, sofar_bad, sofar_end, sofar_none, sofar_then}
 use Rattle.scan_rows.specs.Laws.Keys.{key_in, key_row_fits, key_tagged}

@@ -15,7 +15,6 @@ use Rattle.payload.specs.Scan.{RowScan, any_row, scan_kids, scan_untagged, scan_
 use Rattle.payload.specs.Shapes.{ItemKind, Kids, kinds_of, one_value, shape, values, with_kids}
 use Rattle.payload.specs.Trees.{Node, Trees, cons}
 use Rattle.row_layout.specs.Layout.{count_word}
-use Rattle.utf8.specs.Utf8.{one}
 use Rattle.scan_rows.specs.Found.{Scanned, WholeRows}
 use Rattle.scan_rows.specs.Laws.Found.{bad_of, found_by, next_of}
 use Rattle.scan_rows.specs.Laws.Row.{value_deep, value_past}
