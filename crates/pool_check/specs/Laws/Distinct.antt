@@ -9,7 +9,7 @@ use Rattle.std.proofs.Math.ListN.{take}
 use borrow.Author.Tests.{eq-eqb, ne_eqb, not-true}
 use Rattle.slices.specs.Laws.Same.{same_no, same_refl}
 use Rattle.slices.specs.Same.{same}
-use Rattle.payload.specs.Choice.{◌and◌, if◌then◌else◌}
+use Rattle.payload.specs.Choice.{if◌then◌else◌}
 use Rattle.payload.specs.Laws.Pool.{and_both, false≢true}
 use Rattle.payload.specs.Pool.{is_in}
 use Rattle.payload.specs.Rows.{part_words}

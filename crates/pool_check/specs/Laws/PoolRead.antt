@@ -14,7 +14,7 @@ use Rattle.payload.specs.Reading.{Payload, read_payload}
 use Rattle.payload.specs.declared.Capacities.{Capacities}
 use Rattle.payload.specs.Trees.{forget_script}
 use Rattle.payload.specs.Write.{has_bytes, interned_parts}
-use Rattle.payload.specs.Writing.{gathered, pool_of, writing}
+use Rattle.payload.specs.Writing.{gathered, pool_of}
 use Rattle.pool_index.specs.Laws.Distinct.{interned_distinct}
 use Rattle.pool_index.specs.Strings.{distinct}
 use Rattle.gather.specs.Laws.Parts.{bytes_of, pool_bytes}
@@ -26,7 +26,7 @@ use Rattle.pool_check.specs.Laws.PoolEntries.{Entries, Entry, entries_append, ga
 entries_interned : (pool l xs : List Part) → Entries pool l → Entries pool xs → Entries pool (interned_parts l xs)
 unfolding interned_parts Entries
 entries_interned pool l [] h k = h
-entries_interned pool l (x ∷ xs) h k = entries_interned pool _ xs (go (has_bytes x.bytes l)) k.1
+entries_interned pool l (x ∷ xs) h k = entries_interned pool (if◌then◌else◌ (has_bytes x.bytes l) l (l ++ (x ∷ []))) xs (go (has_bytes x.bytes l)) k.1
   where
     go : (t : Bool) → Entries pool (if◌then◌else◌ t l (l ++ (x ∷ [])))
     go true = unfold if◌then◌else◌ in h
