@@ -22,7 +22,7 @@ use Rattle.payload.specs.Rows.{items_words, kinds_width, kids_count_words, count
 use Rattle.payload.specs.Shapes.{ItemKind, no_value, one_value, values, keys, pairs, Shape, with_kids, with_chunk, with_fields, with_template, shape, kinds_of}
 use Rattle.payload.specs.Spans.{Span}
 use Rattle.payload.specs.Tables.{span_words}
-use Rattle.payload.specs.Trees.{Item, number, string, native_name, record_name, code, forget_items, forget_trees, Trees, nil, node, span_items, span_count, size}
+use Rattle.payload.specs.Trees.{Item, key_of, forget_items, forget_trees, Trees, nil, node, span_items, span_count, size}
 use Rattle.payload.specs.Writing.{write_items, write_trees, concat, write_kids, write_row, tag_byte}
 use Rattle.row_layout.specs.Layout.{kids_form, shape_form, first_form, second_form, second_word, under_form, count_word}
 use Rattle.write_rows.specs.Walk.{Held, row_count, row_word, items_bytes, head_bytes, rows_under, code_length, span_after, row_spans, Walked, walked, and_walk, walk_times, walk_next, walk_row, walk}
@@ -66,7 +66,7 @@ even : (seen : List (List ℕ)) (rs : List Root) → distinct_pairs seen rs ≡ 
 unfolding distinct_pairs
 even seen [] h = refl
 even seen (r ∷ []) h = false≢true h
-even seen (r ∷ v ∷ rs) h = let g = even _ rs (and_right _ _ (and_right _ _ h)) in omega arith
+even seen (r ∷ v ∷ rs) h = let g = even (key_of r.tag r.items ∷ seen) rs (and_right _ _ (and_right _ _ h)) in omega arith
 
 length_written : (l : List (List ℕ)) (ts : Trees Part) → length (write_trees l (forget_trees ts)) ≡ root_count ts
 unfolding write_trees forget_trees root_count
