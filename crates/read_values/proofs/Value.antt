@@ -36,7 +36,7 @@ use Rattle.read_values.specs.declared.Step.{Step}
 use Rattle.read_values.specs.declared.Step.TheVariants.{Done, Refused}
 use Rattle.read_values.proofs.Tags.{no_template}
 use Rattle.read_values.specs.Under.{read_under}
-use Rattle.read_values.proofs.Shape.{filled, many_count, shape_head, under_count, under_none}
+use Rattle.read_values.proofs.Shape.{many_count, shape_head, under_count, under_none}
 use Rattle.read_values.proofs.Loop.{did_none}
 
 ---- the variant that a match found
