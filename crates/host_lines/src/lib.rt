@@ -1,4 +1,6 @@
 // The calls on lines for a Rust host. Each gives the refusal's number or 0, and puts its fields into the answer's first words.
+#![tactic(auto)]
+
 ghost use Rattle.std.specs.Prelude.{◌≡◌, length};
 ghost use Rattle.slices.specs.Zeros.{pad_to};
 ghost use Rattle.answer.specs.PutIfRoom.{put_if_room};

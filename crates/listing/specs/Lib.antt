@@ -1,3 +1,4 @@
+pub mod Digits
 pub mod Listing
 pub mod Puts
 pub mod Laws
