@@ -28,7 +28,7 @@ restored n pool e = ap (put_mid 0 (2 * n - 0) pool) e ∙ put_same 0 (2 * n - 0)
 
 pub returns-then-counts-payload-clause-value : goal.returns-then-counts-payload-clause-value
 returns-then-counts-payload-clause-value c =
-    let bytes : Bytes c.args.payload.now = λ k. omega (arith, c.type_inv.payload k) in not_consumed (was_read c.requires bytes) bytes c.if-counts-payload.true
+    let bytes : Bytes c.args.payload.now = λ k. omega (arith, c.type_inv.payload k) in not_consumed (was_read c.requires bytes) bytes (λ q. omega arith)
 
 pub overflow_mul-rows_end : goal.overflow_mul-rows_end
 overflow_mul-rows_end c =
@@ -138,7 +138,7 @@ returns-clause-value c =
     c.is_writing.ensures
     ∙ ap (λ (T : Tables). is_writing (script_of T) a.payload.now) (lent_tables_lem a.payload.now a.counts a.rows.now a.spans.now a.starts.now)
     ∙ writing_is (was_read c.requires bytes) bytes (positions a.counts.spans a.spans.now c.are_positions.ensures c.if-not-are_positions.false)
-    c.if-counts-payload.false
+    (omega arith)
 
 pub returns-clause-pool_unchanged : goal.returns-clause-pool_unchanged
 returns-clause-pool_unchanged c = restored c.args.counts.strings c.args.pool.now c.are_distinct.ensures.pool_unchanged

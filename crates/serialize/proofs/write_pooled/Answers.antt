@@ -1,4 +1,5 @@
 -- `serialize::write_pooled` meets its contract: refusals 18, 16 and 25 in this order, then the bytes.
+use native.Mathlib.Omega.{arith}
 use Rattle.serialize.specs.Laws.Pooled.{measured_within, leaves_unnamed, leaves_large, leaves_short, leaves_written}
 use Rattle.serialize.proofs.write_pooled.Goals as goal
 
@@ -12,7 +13,7 @@ returns-then-need-gt-SIZE c =
 pub returns-then-out-need : goal.returns-then-out-need
 returns-then-out-need c =
     leaves_short _ _ _ _ _ c.first_unnamed-named.ensures c.if-named-rows.false c.measure-need.ensures c.if-need-gt-SIZE.false
-    c.if-out-need.true
+    (omega arith)
 
 pub write_front-requires-clause-need_value : goal.write_front-requires-clause-need_value
 write_front-requires-clause-need_value c = measured_within c.measure-need.ensures c.if-need-gt-SIZE.false
