@@ -9,7 +9,7 @@ use Rattle.varint.specs.Varint.{scan, varint_of}
 use Rattle.payload.specs.Choice.{◌and◌, if◌then◌else◌}
 use Rattle.payload.specs.Equal.{is_part, singles, view_one, view_row, view_words}
 use Rattle.payload.specs.House.{all_named, checked, house, house_written, is_ok}
-use Rattle.payload.specs.Laws.ProofTable.{number_read, part_read, payload_read, table_sizes}
+use Rattle.payload.proofs.Laws.ProofTable.{number_read, part_read, payload_read, table_sizes}
 use Rattle.payload.specs.Names.{is_listed, names_of, onto}
 use Rattle.payload.specs.Numbers.{after_varint, cut_tested, cut_to, cut_to_signed, fits_kind, fits_signed, is_scalar, read_float, read_number, varint, write_number}
 use Rattle.payload.specs.Pool.{index_of, interned, is_in}

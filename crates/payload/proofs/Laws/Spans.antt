@@ -13,7 +13,6 @@ use Rattle.payload.specs.Choice.{◌and◌, if◌then◌else◌}
 use Rattle.payload.specs.Laws.Gives.{Gives, gives_as, gives_bind, gives_body, gives_by, gives_here, gives_is, gives_must, gives_pure, gives_spans, gives_then}
 use Rattle.payload.specs.Laws.Pool.{and_both, and_left, and_right}
 use Rattle.payload.specs.Laws.Varint.{gives_varint}
-use Rattle.payload.specs.Reader.{start}
 use Rattle.payload.specs.declared.Capacities.{Capacities}
 use Rattle.payload.specs.Spans.{Run, Span, expand, join, read_code, read_position, read_runs, runs_of, same_span, small_spans, total, write_code, write_delta, write_deltas, write_runs}
 

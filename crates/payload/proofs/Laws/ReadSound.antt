@@ -10,15 +10,15 @@ use borrow.Author.Tests.{eqb-true, lt-ltb, ltb-true}
 use Rattle.slices.specs.Laws.LittleEndian.{Bytes}
 use Rattle.signed.specs.Signed.{word_of}
 use Rattle.payload.specs.Demand3.{Listed, all_items, all_of, item_listed}
-use Rattle.payload.specs.Laws.Equal.{single_bytes}
-use Rattle.payload.specs.Laws.Given.{length_span_words}
-use Rattle.payload.specs.Laws.Keeps.{Keeps, Plain, Step, keeps_at, keeps_bind, keeps_body, keeps_byte, keeps_check, keeps_free, keeps_pure, keeps_value, keeps_varint}
-use Rattle.payload.specs.Laws.Kept.{NodeIs, TextIn, TextsIn, are_as, item_held, item_read, kept_chunk, kept_index, kept_position, node_tag}
+use Rattle.payload.proofs.Laws.Equal.{single_bytes}
+use Rattle.payload.proofs.Laws.Given.{length_span_words}
+use Rattle.payload.proofs.Laws.Keeps.{Keeps, Plain, Step, keeps_at, keeps_bind, keeps_body, keeps_byte, keeps_check, keeps_free, keeps_pure, keeps_value, keeps_varint}
+use Rattle.payload.proofs.Laws.Kept.{NodeIs, TextIn, TextsIn, are_as, item_held, item_read, kept_chunk, kept_index, kept_position, node_tag}
 use Rattle.payload.specs.Laws.Pool.{and_both, and_left, and_right}
-use Rattle.payload.specs.Laws.ReadBack.{all_items_lem}
+use Rattle.payload.proofs.Laws.ReadBack.{all_items_lem}
 use Rattle.payload.specs.Laws.Rules.{SoundScript, is_tag, item_sound, line_rule, obey_rules}
-use Rattle.payload.specs.Laws.ScanWritten.{InTrees}
-use Rattle.payload.specs.Laws.SoundTables.{InLine, obeyed_width}
+use Rattle.payload.proofs.Laws.ScanWritten.{InTrees}
+use Rattle.payload.proofs.Laws.SoundTables.{InLine, obeyed_width}
 use Rattle.payload.specs.Reader.{Part, Reader, State, ok, start}
 use Rattle.payload.specs.Reading.{Payload, read_flagged, read_line_index, read_payload, read_pool, read_starts, read_string, read_strings}
 use Rattle.payload.specs.declared.Capacities.{Capacities}

@@ -14,17 +14,17 @@ use Rattle.varint.specs.Uleb128.{uleb128}
 use Rattle.payload.specs.Choice.{if◌then◌else◌}
 use Rattle.payload.specs.Demand3.{Fits, Listed, all_items, all_of, item_listed}
 use Rattle.payload.specs.House.{all_named, checked, house, house_written, is_ok}
-use Rattle.payload.specs.Laws.Equal.{single_bytes}
-use Rattle.payload.specs.Laws.Given.{small_span_table, spans_of_words}
+use Rattle.payload.proofs.Laws.Equal.{single_bytes}
+use Rattle.payload.proofs.Laws.Given.{small_span_table, spans_of_words}
 use Rattle.payload.specs.Laws.Gives.{after}
-use Rattle.payload.specs.Laws.Keeps.{invert, not_ok}
-use Rattle.payload.specs.Laws.Kept.{item_read}
+use Rattle.payload.proofs.Laws.Keeps.{invert, not_ok}
+use Rattle.payload.proofs.Laws.Kept.{item_read}
 use Rattle.payload.specs.Laws.Named.{all_named_lem, named_all}
 use Rattle.payload.specs.Laws.Pool.{and_both, and_left, and_right, false≢true}
-use Rattle.payload.specs.Laws.ReadBack.{few_strings, gives_payload, pool_back}
-use Rattle.payload.specs.Laws.ReadSound.{read_is}
+use Rattle.payload.proofs.Laws.ReadBack.{few_strings, gives_payload, pool_back}
+use Rattle.payload.proofs.Laws.ReadSound.{read_is}
 use Rattle.payload.specs.Laws.Rules.{Named, Small, SoundScript, item_sound, line_rule, obey_rules}
-use Rattle.payload.specs.Laws.SoundTables.{Holds, holds_sound, sound_holds, sound_script_lem}
+use Rattle.payload.proofs.Laws.SoundTables.{Holds, holds_sound, sound_holds, sound_script_lem}
 use Rattle.payload.specs.Laws.Varint.{gives_varint}
 use Rattle.payload.specs.Names.{is_listed}
 use Rattle.payload.specs.Numbers.{varint}

@@ -9,12 +9,12 @@ use Rattle.slices.specs.Zeros.{pad_to}
 use Rattle.payload.specs.Answers.{read_fields, read_number, written_fields}
 use Rattle.payload.specs.Demand3.{GivesBack, HouseProgram, PartsOf}
 use Rattle.payload.specs.House.{house, is_ok}
-use Rattle.payload.specs.Laws.Demand3.{demand_3, demand_3_back, is_writing_lem, small_capacities}
-use Rattle.payload.specs.Laws.House.{IsWriting, check_passed, read_strings_lem, reading_ok}
-use Rattle.payload.specs.Laws.Kept.{TextsIn}
+use Rattle.payload.proofs.Laws.Demand3.{demand_3, demand_3_back, is_writing_lem, small_capacities}
+use Rattle.payload.proofs.Laws.House.{IsWriting, check_passed, read_strings_lem, reading_ok}
+use Rattle.payload.proofs.Laws.Kept.{TextsIn}
 use Rattle.payload.specs.Laws.Pool.{false≢true}
-use Rattle.payload.specs.Laws.ReadSound.{read_is, rows_counted, spans_counted}
-use Rattle.payload.specs.Laws.Refusals.{house_refusal}
+use Rattle.payload.proofs.Laws.ReadSound.{read_is, rows_counted, spans_counted}
+use Rattle.payload.proofs.Laws.Refusals.{house_refusal}
 use Rattle.payload.specs.Laws.Rules.{Small}
 use Rattle.payload.specs.Laws.Tables.{length_parts_words}
 use Rattle.payload.specs.Names.{is_listed}

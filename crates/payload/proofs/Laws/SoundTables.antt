@@ -8,15 +8,15 @@ use Rattle.std.proofs.Math.Seq.{drop-length}
 use borrow.Author.Tests.{eq-eqb, eqb-true, le-leb, leb-true}
 use Rattle.payload.specs.Choice.{◌and◌, if◌then◌else◌}
 use Rattle.payload.specs.Demand3.{all_items}
-use Rattle.payload.specs.Laws.Given.{given_back, in_given, length_span_table, length_span_words, length_spans_of, obey_given, row_table_given, small_span_table, sound_given}
-use Rattle.payload.specs.Laws.Given.{span_count_without, span_table_given, spans_of_words, words_of_spans}
+use Rattle.payload.proofs.Laws.Given.{given_back, in_given, length_span_table, length_span_words, length_spans_of, obey_given, row_table_given, small_span_table, sound_given}
+use Rattle.payload.proofs.Laws.Given.{span_count_without, span_table_given, spans_of_words, words_of_spans}
 use Rattle.payload.specs.Laws.Gives.{Gives, after, gives_as}
-use Rattle.payload.specs.Laws.Keeps.{invert, not_ok}
+use Rattle.payload.proofs.Laws.Keeps.{invert, not_ok}
 use Rattle.payload.specs.Laws.Pool.{and_both, and_left, and_right, false≢true}
-use Rattle.payload.specs.Laws.RoundTrip.{same_kind_eq}
+use Rattle.payload.proofs.Laws.RoundTrip.{same_kind_eq}
 use Rattle.payload.specs.Laws.Rules.{Root, SoundScript, item_sound, line_rule, obey_rules, roots, row_rule, same_kinds, without_spans, without_spans_items}
-use Rattle.payload.specs.Laws.ScanWritten.{InStore, InTrees, kind_bytes, scan_flat}
-use Rattle.payload.specs.Laws.Takes.{item_row_sound, scan_took}
+use Rattle.payload.proofs.Laws.ScanWritten.{InStore, InTrees, kind_bytes, scan_flat}
+use Rattle.payload.proofs.Laws.Takes.{item_row_sound, scan_took}
 use Rattle.payload.specs.Reader.{Part, Reader, Result, State, ◌>>=◌, ◌>>◌, and_then, must, ok, pure, set_place, set_rows, start}
 use Rattle.payload.specs.declared.Capacities.{Capacities}
 use Rattle.payload.specs.Rows.{count_words, item_words, items_words, kids_count_words, kind_width, kinds_width, part_words, root_count, row_table, row_width, row_words, span_table, unused_words}

@@ -5,8 +5,8 @@ use Rattle.std.proofs.Common.{⊎_elim, ◌∙◌, sym, add-zero, arith, lit≤,
 use Rattle.std.proofs.Math.Path.{◌≡◌, ap, refl}
 use Rattle.payload.specs.Choice.{if◌then◌else◌}
 use Rattle.payload.specs.House.{checked, house}
-use Rattle.payload.specs.Laws.Further.{Like, Room, alike, equal, freed, further, lacks}
-use Rattle.payload.specs.Laws.Moved.{still}
+use Rattle.payload.proofs.Laws.Further.{Like, Room, alike, equal, freed, further, lacks}
+use Rattle.payload.proofs.Laws.Moved.{still}
 use Rattle.payload.specs.Moved.{moved_by}
 use Rattle.payload.specs.Names.{is_listed}
 use Rattle.payload.specs.Reader.{Result, State, refused, start}

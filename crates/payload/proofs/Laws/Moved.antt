@@ -4,9 +4,9 @@ use Rattle.std.proofs.Math.Option.{Option, none, some}
 use Rattle.std.proofs.Common.{◌∙◌, ap₂, add-zero, zero-add, arith, le-leb, le-ltb, leb-false, leb-true, lt-ltb, ltb-false, ltb-true}
 use Rattle.std.proofs.Math.Path.{ap, refl, sym}
 use Rattle.std.proofs.lemmas.Bool.{lt-leb}
-use Rattle.payload.specs.Laws.Everywhere.{forget_items_lem}
-use Rattle.payload.specs.Laws.Further.{Like, alike, equal, freed, further}
-use Rattle.payload.specs.Laws.Keeps.{not_ok}
+use Rattle.payload.proofs.Laws.Everywhere.{forget_items_lem}
+use Rattle.payload.proofs.Laws.Further.{Like, alike, equal, freed, further}
+use Rattle.payload.proofs.Laws.Keeps.{not_ok}
 use Rattle.payload.specs.Moved.{moved_by, moved_item, moved_items, moved_line, moved_part, moved_parts, moved_result, moved_script, moved_state, moved_trees, start_at}
 use Rattle.payload.specs.Reader.{Part, Result, State, ok, refused, start}
 use Rattle.payload.specs.Reading.{Payload, read_payload}

@@ -6,10 +6,10 @@ use Rattle.std.proofs.Math.Path.{refl}
 use Rattle.std.proofs.lemmas.List.{drop-append-le, take-append-le}
 use Rattle.payload.specs.Equal.{View, is_part, singles, view, view_one, view_row, view_rows, view_words}
 use Rattle.payload.specs.Laws.Pool.{and_left, and_right, false≢true}
-use Rattle.payload.specs.Laws.RoundTrip.{same_kind_eq}
+use Rattle.payload.proofs.Laws.RoundTrip.{same_kind_eq}
 use Rattle.payload.specs.Laws.Rules.{SoundScript, same_kinds}
-use Rattle.payload.specs.Laws.ScanWritten.{InItem, InItems, InTrees, kind_bytes}
-use Rattle.payload.specs.Laws.SoundTables.{Holds, InLine, Kinded, kinded, row_table_width, row_width_lem}
+use Rattle.payload.proofs.Laws.ScanWritten.{InItem, InItems, InTrees, kind_bytes}
+use Rattle.payload.proofs.Laws.SoundTables.{Holds, InLine, Kinded, kinded, row_table_width, row_width_lem}
 use Rattle.payload.specs.Reader.{Part}
 use Rattle.payload.specs.Rows.{count_words, item_words, items_spans, items_words, part_words, root_count, row_table, row_width, row_words, span_table, unused_words}
 use Rattle.payload.specs.Shapes.{ItemKind, kinds_of, shape}

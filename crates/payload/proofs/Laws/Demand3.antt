@@ -6,10 +6,10 @@ use Rattle.slices.specs.Laws.LittleEndian.{Bytes}
 use Rattle.payload.specs.Demand3.{HouseProgram, Writes}
 use Rattle.payload.specs.Equal.{Equal}
 use Rattle.payload.specs.House.{house, is_ok}
-use Rattle.payload.specs.Laws.Equal.{view_holds, view_script}
-use Rattle.payload.specs.Laws.House.{Bounded, IsWriting, house_passes, house_reads, is_named, named_is, one_script, read_back, read_holds, reading_short}
+use Rattle.payload.proofs.Laws.Equal.{view_holds, view_script}
+use Rattle.payload.proofs.Laws.House.{Bounded, IsWriting, house_passes, house_reads, is_named, named_is, one_script, read_back, read_holds, reading_short}
 use Rattle.payload.specs.Laws.Rules.{Small}
-use Rattle.payload.specs.Laws.SoundTables.{sound_holds, sound_script_lem}
+use Rattle.payload.proofs.Laws.SoundTables.{sound_holds, sound_script_lem}
 use Rattle.payload.specs.Names.{is_listed}
 use Rattle.payload.specs.Reader.{State, ok}
 use Rattle.payload.specs.Reading.{Payload}

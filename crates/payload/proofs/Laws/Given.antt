@@ -6,8 +6,8 @@ use Rattle.payload.specs.Choice.{◌and◌}
 use Rattle.payload.specs.Demand3.{all_items, all_of}
 use Rattle.payload.specs.Laws.Pool.{and_both, and_left, and_right}
 use Rattle.payload.specs.Laws.Rules.{Root, all_tags, distinct_keys, distinct_pairs, is_tag, is_value_tag, item_sound, kids_rule, obey_rules, roots, row_rule, same_kinds, without_spans, without_spans_item, without_spans_items}
-use Rattle.payload.specs.Laws.ScanWritten.{InItem, InItems, InTrees, count_roots, key_bare}
-use Rattle.payload.specs.Laws.Takes.{item_row_sound}
+use Rattle.payload.proofs.Laws.ScanWritten.{InItem, InItems, InTrees, count_roots, key_bare}
+use Rattle.payload.proofs.Laws.Takes.{item_row_sound}
 use Rattle.payload.specs.Reader.{Part}
 use Rattle.payload.specs.Rows.{item_words, items_spans, items_words, root_count, row_table, row_words, span_table}
 use Rattle.payload.specs.Shapes.{ItemKind, Kids, Shape, keys, no_value, one_value, pairs, shape, values, with_chunk, with_fields, with_kids, with_template}
@@ -209,10 +209,10 @@ pub in_given : (store : List ℕ) (ss : List Span) (ts : Trees Part) → InTrees
 unfolding InTrees give span_items forget_items
 in_given store ss nil h = h
 in_given store ss (node t is ks ts) h = (
-    in_items_given store ss is h.0,
-    in_given store (drop (span_items (forget_items is)) ss) ks h.1,
-    in_given store (drop (span_items (forget_items is) + span_count (forget_trees ks)) ss) ts h.2,
-  )
+  in_items_given store ss is h.0,
+  in_given store (drop (span_items (forget_items is)) ss) ks h.1,
+  in_given store (drop (span_items (forget_items is) + span_count (forget_trees ks)) ss) ts h.2,
+)
 
 ---- the spans given are the span table
 

@@ -12,10 +12,10 @@ use Rattle.varint.specs.Uleb128.{uleb128}
 use Rattle.payload.specs.Choice.{◌and◌, if◌then◌else◌}
 use Rattle.payload.specs.Demand3.{all_items, all_of}
 use Rattle.payload.specs.Laws.Gives.{Gives, gives_as, gives_at, gives_bind, gives_byte, gives_check, gives_fits, gives_here, gives_is, gives_must, gives_pure, gives_row, gives_then}
-use Rattle.payload.specs.Laws.Numbers.{gives_cut, gives_number}
+use Rattle.payload.proofs.Laws.Numbers.{gives_cut, gives_number}
 use Rattle.payload.specs.Laws.Pool.{and_both, and_left, and_right, false≢true, index_of_at, index_of_lt}
 use Rattle.payload.specs.Laws.Rules.{all_tags, all_values, distinct_keys, distinct_pairs, is_tag, is_value_tag, kids_rule, obey_rules, roots, row_rule, same_kind, same_kinds}
-use Rattle.payload.specs.Laws.Spans.{gives_code}
+use Rattle.payload.proofs.Laws.Spans.{gives_code}
 use Rattle.payload.specs.Laws.Varint.{gives_varint}
 use Rattle.payload.specs.Numbers.{NumberKind-discrete, fits_kind, varint}
 use Rattle.payload.specs.Pool.{index_of, is_in}

@@ -6,8 +6,8 @@ use Rattle.varint.specs.Laws.RoundTrip.{reads_within}
 use Rattle.varint.specs.Varint.{cut, scan, under, varint_of}
 use Rattle.varint.specs.declared.Varint.{Varint}
 use Rattle.varint.specs.declared.Varint.TheVariants.{Number, Refused}
-use Rattle.payload.specs.Laws.Everywhere.{Closed, everywhere}
-use Rattle.payload.specs.Laws.Keeps.{invert, not_ok}
+use Rattle.payload.proofs.Laws.Everywhere.{Closed, everywhere}
+use Rattle.payload.proofs.Laws.Keeps.{invert, not_ok}
 use Rattle.payload.specs.Moved.{with_rest}
 use Rattle.payload.specs.Numbers.{after_varint, varint}
 use Rattle.payload.specs.Reader.{Part, Reader, Result, State, ◌>>=◌, advanced, and_then, body, byte, first_byte, here, must, new_row, new_spans, ok, pure, start, with_row, with_spans}

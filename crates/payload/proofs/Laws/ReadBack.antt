@@ -18,9 +18,9 @@ use Rattle.payload.specs.Choice.{◌and◌, ◌or◌, if◌then◌else◌}
 use Rattle.payload.specs.Demand3.{Fits, Listed, all_items, all_of, item_listed}
 use Rattle.payload.specs.Laws.Gives.{Gives, gives_as, gives_at, gives_bind, gives_body, gives_byte, gives_check, gives_is, gives_pure}
 use Rattle.payload.specs.Laws.Pool.{and_both, and_left, and_right, interned_in, is_in_append}
-use Rattle.payload.specs.Laws.RoundTrip.{gives_index, item_readable, reads_chunk, reads_value}
+use Rattle.payload.proofs.Laws.RoundTrip.{gives_index, item_readable, reads_chunk, reads_value}
 use Rattle.payload.specs.Laws.Rules.{Named, Small, SoundScript, item_gathered, item_sound, line_rule}
-use Rattle.payload.specs.Laws.Spans.{gives_position, word_back}
+use Rattle.payload.proofs.Laws.Spans.{gives_position, word_back}
 use Rattle.payload.specs.Laws.Varint.{gives_varint}
 use Rattle.payload.specs.Pool.{interned, is_in}
 use Rattle.payload.specs.Reader.{Part, ◌>>=◌, pure}

@@ -13,12 +13,12 @@ use Rattle.utf8.specs.Utf8.{is_utf8}
 use Rattle.signed.specs.Signed.{unzigzag_of}
 use Rattle.payload.specs.Choice.{◌and◌, if◌then◌else◌}
 use Rattle.payload.specs.Demand3.{all_items, all_of, item_listed}
-use Rattle.payload.specs.Laws.Keeps.{Keeps, Plain, keeps_at, keeps_bind, keeps_body, keeps_byte, keeps_check, keeps_free, keeps_must, keeps_pure, keeps_row, keeps_so, keeps_spans, keeps_then, keeps_value, keeps_varint, plain_so}
-use Rattle.payload.specs.Laws.Numbers.{cut_fits, word_small}
+use Rattle.payload.proofs.Laws.Keeps.{Keeps, Plain, keeps_at, keeps_bind, keeps_body, keeps_byte, keeps_check, keeps_free, keeps_must, keeps_pure, keeps_row, keeps_so, keeps_spans, keeps_then, keeps_value, keeps_varint, plain_so}
+use Rattle.payload.proofs.Laws.Numbers.{cut_fits, word_small}
 use Rattle.payload.specs.Laws.Pool.{and_both, and_left, and_right, false≢true}
 use Rattle.payload.specs.Laws.Rules.{Root, all_tags, all_values, distinct_keys, distinct_pairs, is_tag, is_value_tag, kids_rule, obey_rules, roots, row_rule, same_kind, same_kinds}
-use Rattle.payload.specs.Laws.ScanWritten.{InItem, InItems, InStore, InTrees}
-use Rattle.payload.specs.Laws.Takes.{closure_rule, put_keys, put_pairs, put_tags, same_kind_self}
+use Rattle.payload.proofs.Laws.ScanWritten.{InItem, InItems, InStore, InTrees}
+use Rattle.payload.proofs.Laws.Takes.{closure_rule, put_keys, put_pairs, put_tags, same_kind_self}
 use Rattle.payload.specs.Numbers.{NumberKind, bool, char, cut_tested, cut_to, cut_to_signed, f32, f64, fits_kind, fits_signed, handle, i16, i32, i64, i8, is_scalar, read_float, read_number, u16, u32, u64, u8}
 use Rattle.payload.specs.Reader.{Part, Reader}
 use Rattle.payload.specs.Reading.{Context, node_key, read_chunk, read_item, read_items, read_keys, read_kids, read_many, read_one, read_pairs, read_pool_index, read_shape, read_untagged, read_value, test_key}

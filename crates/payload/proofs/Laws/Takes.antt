@@ -12,10 +12,10 @@ use borrow.Author.Tests.{eq-eqb, eqb-true, leb-true, lt-ltb}
 use Rattle.utf8.specs.Utf8.{is_utf8}
 use Rattle.payload.specs.Choice.{◌and◌, if◌then◌else◌}
 use Rattle.payload.specs.Demand3.{all_items, all_of}
-use Rattle.payload.specs.Laws.Keeps.{invert, not_ok}
+use Rattle.payload.proofs.Laws.Keeps.{invert, not_ok}
 use Rattle.payload.specs.Laws.Pool.{and_both, and_left, and_right, false≢true}
 use Rattle.payload.specs.Laws.Rules.{all_tags, all_values, distinct_keys, distinct_pairs, is_tag, is_value_tag, kids_rule, obey_rules, roots, row_rule, same_kind, same_kinds}
-use Rattle.payload.specs.Laws.ScanWritten.{InItem, InItems, InStore, InTrees, count_roots}
+use Rattle.payload.proofs.Laws.ScanWritten.{InItem, InItems, InStore, InTrees, count_roots}
 use Rattle.payload.specs.Numbers.{NumberKind-discrete, fits_kind}
 use Rattle.payload.specs.Reader.{Part, Reader, Result, State, ◌>>=◌, ◌>>◌, advanced, and_then, must, ok, pure, with_row}
 use Rattle.payload.specs.Reading.{node_key, read_many}
