@@ -9,7 +9,7 @@ use borrow.Author.Tests.{le-ltb, lt-ltb}
 use Rattle.payload.specs.Answers.{read_fields}
 use borrow.Rule.Slice.PartMut.{mid_of, put_same, put_mid}
 use Rattle.payload.specs.Choice.{if◌then◌else◌}
-use Rattle.payload.specs.Laws.Contracts.{fields_are}
+use Rattle.payload.proofs.Laws.Contracts.{fields_are}
 use Rattle.payload.specs.Reader.{Result, and_then, refused, start, ◌>>=◌}
 use Rattle.payload.specs.Reading.{Payload, read_payload, read_pool}
 use Rattle.payload.specs.declared.Capacities.{Capacities}

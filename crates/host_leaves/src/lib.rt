@@ -1,4 +1,6 @@
 // The calls of the varint layer, exported to compare and measure them.
+#![tactic(auto)]
+
 ghost use Rattle.std.specs.Prelude.{◌≡◌, ltb, length};
 ghost use Rattle.slices.specs.Put.{put};
 ghost use Rattle.answer.specs.PutIfRoom.{put_if_room};

@@ -5,7 +5,7 @@ use Rattle.signed.specs.Signed.{unzigzag_of, word_of, zigzag_of}
 use Rattle.varint.specs.Uleb128.{uleb128}
 use Rattle.payload.specs.Choice.{◌and◌, if◌then◌else◌}
 use Rattle.payload.specs.Numbers.{varint}
-use Rattle.payload.specs.Reader.{Part, Reader, ◌>>=◌, ◌>>◌, body, here, must, new_spans, pure, start}
+use Rattle.payload.specs.Reader.{Part, Reader, ◌>>=◌, ◌>>◌, body, here, must, new_spans, pure}
 
 pub record Span : Type 0 where
   pub start : ℕ

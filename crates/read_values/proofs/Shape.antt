@@ -8,7 +8,7 @@ use native.Mathlib.Omega.{arith}
 use lib.ListN.{length, get_or, drop_of_length-le}
 use lib.Seq.{drop-cons}
 use borrow.Author.Tests.{le-leb, lt-ltb, le-ltb, lt-leb, eq-eqb, ne_eqb}
-use Rattle.payload.specs.Laws.Keeps.{invert}
+use Rattle.payload.proofs.Laws.Keeps.{invert}
 use Rattle.payload.specs.Laws.Pool.{false≢true}
 use Rattle.payload.specs.Numbers.{varint}
 use Rattle.payload.specs.Reader.{Part, Reader, Result, ◌>>=◌, ◌>>◌, and_then, byte, first_byte, here, must, new_row, ok, pure, refused}

@@ -1,11 +1,14 @@
 // Reads a payload from standard input, and prints its rows and the answer of its reading.
+#![tactic(auto)]
+
 ghost use Rattle.std.specs.Prelude.{◌≡◌, length};
-ghost use Rattle.io.specs.Counts.{IsPrefixLen};
+ghost use Rattle.std.specs.Counts.{IsPrefixLen};
+ghost use Rattle.std.specs.Io.{ReadsAtMost};
 ghost use Rattle.slices.specs.Put.{put};
 ghost use Rattle.rows.specs.Listed.{listed};
 
-use libc::{STDIN_FILENO, STDOUT_FILENO};
 use payload::{Program, Read};
+use std::io;
 
 // The most bytes of a payload that is listed.
 const PAYLOAD: usize = 4096;
@@ -43,11 +46,26 @@ fn list_payload(bytes: &[u8], out: &mut [u8; 65536]) -> usize
     listing::put_listing(answer, &rows, out)
 }
 
+// Reads until the buffer is full or the input ends, and gives how many bytes it put to the front.
+fn read_full<R: io::Read>(input: &mut R, buf: &mut [u8]) -> io::Result<usize>
+    ensures { ReadsAtMost result buf.new }
+{
+    let mut done = 0;
+    while done < buf.len() {
+        let n = input.read(&mut buf[done..])?;
+        if n == 0 {
+            return Ok(done);
+        }
+        done += n;
+    }
+    Ok(done)
+}
+
 // One byte more than a payload may have is read, so that a longer one is seen.
-fn main() {
+fn main(rt: HostRuntime) -> io::Result<()> {
     let mut input = [0u8; PAYLOAD + 1];
-    let n = io::read_full(STDIN_FILENO, &mut input);
-    let mut text = io::large_buffer();
+    let n = read_full(&mut rt.stdin(), &mut input)?;
+    let mut text = [0u8; 65536];
     let size = list_payload(&input[..n], &mut text);
-    io::write_all(STDOUT_FILENO, &text[..size]);
+    rt.write_all(&text[..size])
 }

@@ -1,4 +1,4 @@
--- `numbersOf` and `bytes_of` by cases, as a loop meets them.
+-- `numbers_of` and `bytes_of` by cases, as a loop meets them.
 use Rattle.std.specs.Prelude.{◌≡◌, List, [], ◌∷◌, ◌++◌, length, drop, get_or}
 use Rattle.std.proofs.Math.Path.{refl, ap}
 use Prim.Native.Nat.{ℕ, zero, suc, ◌+◌, ◌-◌, ◌≤◌, ◌<◌}

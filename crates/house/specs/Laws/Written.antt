@@ -12,15 +12,15 @@ use Rattle.slices.specs.Laws.Same.{same_refl}
 use Rattle.slices.specs.Zeros.{pad_to}
 use Rattle.payload.specs.Choice.{◌and◌, if◌then◌else◌}
 use Rattle.payload.specs.House.{checked, house, house_written, is_ok}
-use Rattle.payload.specs.Laws.Demand3.{small_capacities}
-use Rattle.payload.specs.Laws.Equal.{single_bytes}
-use Rattle.payload.specs.Laws.Given.{small_span_table}
-use Rattle.payload.specs.Laws.House.{IsWriting, house_reads, is_named, is_ok_lem, read_back, read_holds, read_strings_lem, reading_ok, small_trees}
-use Rattle.payload.specs.Laws.Kept.{TextsIn}
+use Rattle.payload.proofs.Laws.Demand3.{small_capacities}
+use Rattle.payload.proofs.Laws.Equal.{single_bytes}
+use Rattle.payload.proofs.Laws.Given.{small_span_table}
+use Rattle.payload.proofs.Laws.House.{IsWriting, house_reads, is_named, is_ok_lem, read_back, read_holds, read_strings_lem, reading_ok, small_trees}
+use Rattle.payload.proofs.Laws.Kept.{TextsIn}
 use Rattle.payload.specs.Laws.Pool.{and_both, false≢true}
-use Rattle.payload.specs.Laws.ReadSound.{ReadIs, read_is, rows_counted, spans_counted}
+use Rattle.payload.proofs.Laws.ReadSound.{ReadIs, read_is, rows_counted, spans_counted}
 use Rattle.payload.specs.Laws.Rules.{SoundScript}
-use Rattle.payload.specs.Laws.SoundTables.{holds_sound}
+use Rattle.payload.proofs.Laws.SoundTables.{holds_sound}
 use Rattle.payload.specs.Laws.Tables.{length_parts_words}
 use Rattle.payload.specs.Names.{is_listed}
 use Rattle.payload.specs.Reader.{Part, Result, State, ok, refused, start}

@@ -16,7 +16,7 @@ use Rattle.varint.specs.Varint.{varint_of}
 use Rattle.varint.specs.declared.Varint.{Varint}
 use Rattle.varint.specs.declared.Varint.TheVariants.{Number, Refused}
 use Rattle.payload.specs.Choice.{◌or◌, if◌then◌else◌}
-use Rattle.payload.specs.Laws.Keeps.{invert, not_ok}
+use Rattle.payload.proofs.Laws.Keeps.{invert, not_ok}
 use Rattle.payload.specs.Numbers.{after_varint, varint}
 use Rattle.payload.specs.Reader.{Part, State, ◌>>=◌, ◌>>◌, advanced, body, here, must, ok, pure}
 use Rattle.payload.specs.Reading.{Payload, read_chunk, read_line_index, read_payload, read_pool, read_string, read_strings}

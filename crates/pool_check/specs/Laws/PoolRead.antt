@@ -7,7 +7,7 @@ use Rattle.std.proofs.Math.Path.{sym}
 use Rattle.std.proofs.Math.ListN.{get_or-map}
 use Rattle.std.proofs.lemmas.List.{length-map}
 use Rattle.payload.specs.Choice.{if◌then◌else◌}
-use Rattle.payload.specs.Laws.House.{IsWriting, read_strings_lem}
+use Rattle.payload.proofs.Laws.House.{IsWriting, read_strings_lem}
 use Rattle.payload.specs.Laws.Rules.{Small}
 use Rattle.payload.specs.Reader.{Part, State, ok, start}
 use Rattle.payload.specs.Reading.{Payload, read_payload}

@@ -4,7 +4,7 @@ use Rattle.std.proofs.Math.Path.{refl}
 use Rattle.std.proofs.Common.{zero-le}
 use Rattle.slices.specs.Laws.LittleEndian.{Bytes}
 use Rattle.payload.specs.Choice.{if◌then◌else◌}
-use Rattle.payload.specs.Laws.Kept.{kept_number}
+use Rattle.payload.proofs.Laws.Kept.{kept_number}
 use Rattle.payload.specs.Numbers.{NumberKind, fits_kind, handle, i16, i32, i64, i8, read_number, u16, u32, u64}
 use Rattle.payload.specs.Shapes.{ItemKind, kinds_of, shape, shapes}
 use Rattle.payload.specs.Tables.{limits}

@@ -1,7 +1,6 @@
 -- `row_layout::count_word` meets its contract: the digits agree with the shapes at each of the 35 entries, which antt computes. Assumes nothing.
 use mathlib.Core.Path.{ap}
 use Prim.Native.Nat.{◌+◌}
-use borrow.Author.Rules.{rules}
 use Rattle.payload.specs.Choice.{if◌then◌else◌}
 use Rattle.payload.specs.Rows.{kind_width, kinds_width}
 use Rattle.payload.specs.Shapes.{Shape, shape, shapes, kinds_of}

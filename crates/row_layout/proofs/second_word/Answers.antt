@@ -1,6 +1,5 @@
 -- `row_layout::second_word` meets its contract: the digits agree with the shapes at each of the 35 entries, which antt computes. Assumes nothing.
 use mathlib.Core.Path.{ap}
-use borrow.Author.Rules.{rules}
 use Rattle.payload.specs.Choice.{if◌then◌else◌}
 use Rattle.payload.specs.Rows.{kind_width}
 use Rattle.payload.specs.Shapes.{Shape, shape, shapes, kinds_of}

@@ -2,7 +2,6 @@
 use mathlib.Core.Path.{ap}
 use Prim.Native.Nat.{suc, ◌+◌}
 use lib.ListN.{length}
-use borrow.Author.Rules.{rules}
 use Rattle.payload.specs.Choice.{if◌then◌else◌}
 use Rattle.payload.specs.Rows.{kind_width, kinds_width, count_words, kids_count_words}
 use Rattle.payload.specs.Shapes.{Shape, shape, shapes, kinds_of}

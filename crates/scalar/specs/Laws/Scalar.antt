@@ -7,7 +7,7 @@ use Rattle.std.specs.Float.Ieee.Bits.{nan_bits_is, to_bits-of_bits}
 use Rattle.std.proofs.lemmas.Bool.{eqb-false}
 use Rattle.signed.specs.Laws.Signed.{word_signed}
 use Rattle.payload.specs.Choice.{if◌then◌else◌}
-use Rattle.payload.specs.Laws.Numbers.{scalar_small}
+use Rattle.payload.proofs.Laws.Numbers.{scalar_small}
 use Rattle.payload.specs.Numbers.{NumberKind, cut_signed, fits_kind, fits_signed}
 use Rattle.payload.specs.Shapes.{ItemKind, kinds_of, shape, shapes}
 use Rattle.scalar.specs.declared.Scalar.{Scalar}

@@ -8,10 +8,10 @@ use Prim.Native.Nat.{◌*◌, ◌+◌, ◌-◌, ◌<◌, ◌≤◌, suc, ℕ}
 use Rattle.std.proofs.lemmas.Bool.{eqb-false}
 use Rattle.payload.specs.Choice.{◌and◌, if◌then◌else◌}
 use Rattle.payload.specs.Laws.Pool.{and_both, and_left, and_right, false≢true}
-use Rattle.payload.specs.Laws.RoundTrip.{same_kind_eq}
+use Rattle.payload.proofs.Laws.RoundTrip.{same_kind_eq}
 use Rattle.payload.specs.Laws.Rules.{obey_rules, same_kind, same_kinds}
-use Rattle.payload.specs.Laws.SoundTables.{Kinded, kinded, row_table_width, row_width_lem}
-use Rattle.payload.specs.Laws.Takes.{scan_took}
+use Rattle.payload.proofs.Laws.SoundTables.{Kinded, kinded, row_table_width, row_width_lem}
+use Rattle.payload.proofs.Laws.Takes.{scan_took}
 use Rattle.payload.specs.Reader.{Part, State, ok, start}
 use Rattle.payload.specs.Rows.{item_words, items_words, part_words, root_count, row_table, row_width, row_words}
 use Rattle.payload.specs.Scan.{scan_outer}

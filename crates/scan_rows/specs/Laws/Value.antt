@@ -7,7 +7,7 @@ use Prim.Native.Nat.{◌*◌, ◌+◌, ◌<◌, suc, zero, ℕ}
 use Rattle.std.proofs.Math.Dec.{eqb, ltb}
 use borrow.Author.Tests.{ltb-false, ltb-true}
 use Rattle.payload.specs.Choice.{◌and◌, if◌then◌else◌}
-use Rattle.payload.specs.Laws.Keeps.{not_ok}
+use Rattle.payload.proofs.Laws.Keeps.{not_ok}
 use Rattle.payload.specs.Laws.Pool.{and_left, and_right, false≢true}
 use Rattle.payload.specs.Reader.{Part, Reader, Result, State, ◌>>=◌, and_then, ok, pure, refused}
 use Rattle.payload.specs.Reading.{read_many}

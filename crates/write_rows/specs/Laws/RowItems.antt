@@ -11,9 +11,9 @@ use Rattle.varint.specs.Uleb128.{uleb128}
 use Rattle.payload.specs.Choice.{if◌then◌else◌, ◌and◌}
 use Rattle.payload.specs.Demand3.{all_of}
 use Rattle.payload.specs.Laws.Pool.{and_left, and_right, false≢true}
-use Rattle.payload.specs.Laws.RoundTrip.{same_kind_eq}
+use Rattle.payload.proofs.Laws.RoundTrip.{same_kind_eq}
 use Rattle.payload.specs.Laws.Rules.{same_kind, same_kinds, item_sound}
-use Rattle.payload.specs.Laws.ScanWritten.{InItem, InItems, kind_bytes}
+use Rattle.payload.proofs.Laws.ScanWritten.{InItem, InItems, kind_bytes}
 use Rattle.payload.specs.Numbers.{NumberKind, u64, u32, u16, u8, i64, i32, i16, i8, bool, char, handle, f64, f32, fits_kind, write_number}
 use Rattle.payload.specs.Pool.{index_of}
 use Rattle.payload.specs.Reader.{Part}

@@ -8,9 +8,9 @@ use borrow.Author.Tests.{eqb-true}
 use Rattle.payload.specs.Choice.{if◌then◌else◌}
 use Rattle.payload.specs.Demand3.{all_of}
 use Rattle.payload.specs.Laws.Pool.{and_left, and_right, false≢true}
-use Rattle.payload.specs.Laws.RoundTrip.{same_kind_eq}
+use Rattle.payload.proofs.Laws.RoundTrip.{same_kind_eq}
 use Rattle.payload.specs.Laws.Rules.{same_kind, same_kinds, item_sound}
-use Rattle.payload.specs.Laws.ScanWritten.{InStore, InItem, InItems, kind_bytes}
+use Rattle.payload.proofs.Laws.ScanWritten.{InStore, InItem, InItems, kind_bytes}
 use Rattle.payload.specs.Numbers.{NumberKind, u64, u32, u16, u8, i64, i32, i16, i8, bool, char, handle, f64, f32}
 use Rattle.payload.specs.Reader.{Part}
 use Rattle.payload.specs.Rows.{part_words, item_words, items_words, items_spans}

@@ -12,11 +12,11 @@ use Rattle.std.proofs.Math.Seq.{get_or-append-add, drop_at}
 use Rattle.varint.specs.Uleb128.{uleb128}
 use Rattle.payload.specs.Choice.{if◌then◌else◌, ◌and◌}
 use Rattle.payload.specs.Demand3.{all_of, all_items}
-use Rattle.payload.specs.Laws.Given.{length_span_words}
+use Rattle.payload.proofs.Laws.Given.{length_span_words}
 use Rattle.payload.specs.Laws.Pool.{and_left, and_right, false≢true}
 use Rattle.payload.specs.Laws.Rules.{Root, roots, same_kinds, distinct_pairs, kids_rule, row_rule, item_sound}
-use Rattle.payload.specs.Laws.ScanWritten.{InItems, InTrees, count_roots}
-use Rattle.payload.specs.Laws.SoundTables.{row_width_lem}
+use Rattle.payload.proofs.Laws.ScanWritten.{InItems, InTrees, count_roots}
+use Rattle.payload.proofs.Laws.SoundTables.{row_width_lem}
 use Rattle.payload.specs.Reader.{Part}
 use Rattle.payload.specs.Rows.{items_words, kinds_width, kids_count_words, count_words, unused_words, row_words, items_spans, root_count, row_table, row_width, span_table}
 use Rattle.payload.specs.Shapes.{ItemKind, no_value, one_value, values, keys, pairs, Shape, with_kids, with_chunk, with_fields, with_template, shape, kinds_of}

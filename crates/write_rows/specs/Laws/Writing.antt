@@ -10,10 +10,10 @@ use borrow.Author.Tests.{leb-false, ltb-true, eqb-true}
 use Rattle.varint.specs.Uleb128.{uleb128}
 use Rattle.payload.specs.Choice.{if◌then◌else◌, ◌and◌}
 use Rattle.payload.specs.Demand3.{all_items}
-use Rattle.payload.specs.Laws.Given.{small_span_table}
+use Rattle.payload.proofs.Laws.Given.{small_span_table}
 use Rattle.payload.specs.Laws.Pool.{and_left, and_right, and_both, false≢true}
 use Rattle.payload.specs.Laws.Rules.{Root, roots, all_tags, all_values, kids_rule, row_rule, obey_rules, item_sound}
-use Rattle.payload.specs.Laws.SoundTables.{InLine, sound_holds, sound_script_lem, obeyed_width}
+use Rattle.payload.proofs.Laws.SoundTables.{InLine, sound_holds, sound_script_lem, obeyed_width}
 use Rattle.payload.specs.Reader.{Part, State, ok}
 use Rattle.payload.specs.Rows.{root_count, row_table, span_table}
 use Rattle.payload.specs.Shapes.{no_value, with_kids, shape, shapes}

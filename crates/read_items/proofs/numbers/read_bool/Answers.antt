@@ -1,5 +1,4 @@
 -- `read_bool` meets its contract: a byte that is 0, one that is not, or none.
-use borrow.Author.Rules.{rules}
 use borrow.Author.Tests.{eq-eqb, ne_eqb}
 use Rattle.payload.specs.Choice.{if◌then◌else◌}
 use Rattle.payload.specs.Numbers.{read_number}
