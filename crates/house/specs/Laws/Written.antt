@@ -10,7 +10,7 @@ use Rattle.std.proofs.Math.Seq.{drop-length}
 use Rattle.slices.specs.Laws.LittleEndian.{Bytes}
 use Rattle.slices.specs.Laws.Same.{same_refl}
 use Rattle.slices.specs.Zeros.{pad_to}
-use Rattle.payload.specs.Choice.{◌and◌, if◌then◌else◌}
+use Rattle.payload.specs.Choice.{◌and◌, when◌then◌else◌}
 use Rattle.payload.specs.House.{checked, house, house_written, is_ok}
 use Rattle.payload.proofs.Laws.Demand3.{small_capacities}
 use Rattle.payload.proofs.Laws.Equal.{single_bytes}
@@ -285,7 +285,7 @@ module _ {names p rows spans starts pool : List ℕ} {n : Counts} (w : WasRead n
     all_read e = let q : w.s.place ≡ length p = sym w.consumed ∙ e in ap is_nil (w.has.place_is ∙ ap (λ (k : ℕ). drop k p) q ∙ drop-length p)
 
     to_passes : n.consumed ≡ length p → is_writing (script_of T) p ≡ true → passes ≡ true
-    unfolding is_writing house_written house checked if◌then◌else◌ is_ok
+    unfolding is_writing house_written house checked when◌then◌else◌ is_ok
     to_passes k e =
         let g = sound_tables a in
         let d : is_writing (ok w.u.script g.0) p ≡ true = ap (λ (x : Result (Script Part)). is_writing x p) (sym g.1) ∙ e in

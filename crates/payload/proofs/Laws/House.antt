@@ -11,7 +11,7 @@ use Rattle.std.proofs.Math.Seq.{drop-length}
 use Rattle.slices.specs.Laws.LittleEndian.{Bytes}
 use Rattle.slices.specs.Laws.Same.{same_eq, same_refl}
 use Rattle.varint.specs.Uleb128.{uleb128}
-use Rattle.payload.specs.Choice.{if◌then◌else◌}
+use Rattle.payload.specs.Choice.{when◌then◌else◌}
 use Rattle.payload.specs.Demand3.{Fits, Listed, all_items, all_of, item_listed}
 use Rattle.payload.specs.House.{all_named, checked, house, house_written, is_ok}
 use Rattle.payload.proofs.Laws.Equal.{single_bytes}
@@ -132,34 +132,34 @@ unfolding is_ok
 is_ok_lem x a s e = rw e
 
 pub checked_ok : (p : List ℕ) (x : Result Payload) → is_ok (checked p x) ≡ true → (u : Payload) × (s : State) × (x ≡ ok u s) × (house_written p u s ≡ true)
-unfolding checked is_ok if◌then◌else◌
+unfolding checked is_ok when◌then◌else◌
 checked_ok p (ok u s) e = (u, s, refl, go (house_written p u s) e)
   where
-    go : (t : Bool) → is_ok (if◌then◌else◌ {A = Result Payload} t (ok u s) (refused 19 0)) ≡ true → t ≡ true
+    go : (t : Bool) → is_ok (when◌then◌else◌ {A = Result Payload} t (ok u s) (refused 19 0)) ≡ true → t ≡ true
     go true e = refl
     go false e = false≢true e
 checked_ok p (refused n q) e = false≢true e
 
 -- a passing check leaves what the read gives
 pub check_passed : (p : List ℕ) (x : Result Payload) → is_ok (checked p x) ≡ true → checked p x ≡ x
-unfolding checked is_ok if◌then◌else◌
+unfolding checked is_ok when◌then◌else◌
 check_passed p (refused n q) e = refl
 check_passed p (ok u s) e = go (house_written p u s) e
   where
-    go : (t : Bool) → is_ok (if◌then◌else◌ {A = Result Payload} t (ok u s) (refused 19 0)) ≡ true → if◌then◌else◌ t (ok u s) (refused 19 0) ≡ ok u s
+    go : (t : Bool) → is_ok (when◌then◌else◌ {A = Result Payload} t (ok u s) (refused 19 0)) ≡ true → when◌then◌else◌ t (ok u s) (refused 19 0) ≡ ok u s
     go true e = refl
     go false e = false≢true e
 
 pub reading_ok : (c : Capacities) (names p : List ℕ) (u : Payload) (s : State) → reading c names p ≡ ok u s → (length p ≤ size_limit) × (read_payload c (is_listed names) (start p) ≡ ok u s)
-unfolding reading if◌then◌else◌
+unfolding reading when◌then◌else◌
 reading_ok c names p u s e = go (ltb size_limit (length p)) refl e
   where
-    go : (t : Bool) → ltb size_limit (length p) ≡ t → if◌then◌else◌ t (refused 16 0) (read_payload c (is_listed names) (start p)) ≡ ok u s → (length p ≤ size_limit) × (read_payload c (is_listed names) (start p) ≡ ok u s)
+    go : (t : Bool) → ltb size_limit (length p) ≡ t → when◌then◌else◌ t (refused 16 0) (read_payload c (is_listed names) (start p)) ≡ ok u s → (length p ≤ size_limit) × (read_payload c (is_listed names) (start p) ≡ ok u s)
     go true q e = not_ok 16 0 u s e
     go false q e = (ltb-false size_limit (length p) q, e)
 
 pub reading_short : (c : Capacities) (names p : List ℕ) → length p ≤ size_limit → reading c names p ≡ read_payload c (is_listed names) (start p)
-unfolding reading if◌then◌else◌
+unfolding reading when◌then◌else◌
 reading_short c names p h = rw (le-ltb size_limit (length p) h)
 
 -- an accepted read whose tables are sound gives the script that they hold
@@ -264,7 +264,7 @@ module _ (c : Capacities) (small : Small c) (names p : List ℕ) (bytes : Bytes 
   house_true u z s r a q n w = rw (r, q, w) (and_both refl (and_both a (and_both (is_named s n) (same_refl p))))
 
   pub house_passes : (s : Script (List ℕ)) → IsWriting c (is_listed names) p s → is_ok (house c names p) ≡ true
-  unfolding house checked if◌then◌else◌ is_ok
+  unfolding house checked when◌then◌else◌ is_ok
   house_passes s h =
       let r = read_back c small (is_listed names) p s h in
       let u = r.0 in

@@ -11,7 +11,7 @@ use borrow.Author.Tests.{eq-eqb, eqb-true, lt-ltb, ltb-true}
 use Rattle.slices.specs.Laws.LittleEndian.{Bytes, from_le_bytes_lt, part_bytes}
 use Rattle.utf8.specs.Utf8.{is_utf8}
 use Rattle.signed.specs.Signed.{unzigzag_of}
-use Rattle.payload.specs.Choice.{◌and◌, if◌then◌else◌}
+use Rattle.payload.specs.Choice.{◌and◌, when◌then◌else◌}
 use Rattle.payload.specs.Demand3.{all_items, all_of, item_listed}
 use Rattle.payload.proofs.Laws.Keeps.{Keeps, Plain, keeps_at, keeps_bind, keeps_body, keeps_byte, keeps_check, keeps_free, keeps_must, keeps_pure, keeps_row, keeps_so, keeps_spans, keeps_then, keeps_value, keeps_varint, plain_so}
 use Rattle.payload.proofs.Laws.Numbers.{cut_fits, word_small}
@@ -65,18 +65,18 @@ text_at s (l ∷ ls) h (suc i) d e = let z = ltb-true (suc i) (suc (length ls)) 
 record Row (h : ℕ → Bool) (d d' t : ℕ) (sh : Shape) : Type 0 where
   row_shape : shape t ≡ sh
   row_tag : h t ≡ true
-  row_deep : (ts : Trees (List ℕ)) → obey_rules d' ts ≡ true → if◌then◌else◌ (leb t 26) (ltb 0 d and obey_rules (pred d) ts) (obey_rules d ts) ≡ true
+  row_deep : (ts : Trees (List ℕ)) → obey_rules d' ts ≡ true → when◌then◌else◌ (leb t 26) (ltb 0 d and obey_rules (pred d) ts) (obey_rules d ts) ≡ true
 
 chunk_row_lem : (d : ℕ) → Row (is_tag 32) d d 32 (with_kids (ItemKind.code ∷ []) values)
-unfolding shape if◌then◌else◌
+unfolding shape when◌then◌else◌
 chunk_row_lem d = record { row_shape = refl; row_tag = refl; row_deep = λ ts e. e }
 
 field_row_lem : (d : ℕ) → Row (is_tag 33) d d 33 (with_kids (ItemKind.string ∷ []) one_value)
-unfolding shape if◌then◌else◌
+unfolding shape when◌then◌else◌
 field_row_lem d = record { row_shape = refl; row_tag = refl; row_deep = λ ts e. e }
 
 value_row : (d t : ℕ) → leb t 26 ≡ true → Row is_value_tag (suc d) d t (shape t)
-unfolding if◌then◌else◌
+unfolding when◌then◌else◌
 value_row d t q = record { row_shape = refl; row_tag = q; row_deep = λ ts e. rw q (and_both (lt-ltb 0 (suc d) (omega arith)) e) }
 
 module _ (c : Capacities) (p : List ℕ) where
@@ -112,9 +112,9 @@ module _ (c : Capacities) (p : List ℕ) where
   kept_number small i8 = kept_signed 8 (lit≤ tt)
   kept_number small bool = keeps_free c p (keeps_byte c p) (λ v z. keeps_value c p _ (λ w. ltb w 2 ≡ true) (go (eqb v 0)))
     where
-      go : (t : Bool) → ltb (if◌then◌else◌ t 0 1) 2 ≡ true
-      go true = unfold if◌then◌else◌ in refl
-      go false = unfold if◌then◌else◌ in refl
+      go : (t : Bool) → ltb (when◌then◌else◌ t 0 1) 2 ≡ true
+      go true = unfold when◌then◌else◌ in refl
+      go false = unfold when◌then◌else◌ in refl
   kept_number small char = kept_tested (2 ^ 32) is_scalar 6 (lit< tt)
   kept_number small handle = kept_tested (2 ^ 8) (λ v. leb v 5) 12 (lit< tt)
   kept_number small f64 = plain_so c p (λ w z. lt-ltb w (2 ^ 64) z) (kept_float small 8)

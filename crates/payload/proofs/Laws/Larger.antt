@@ -3,7 +3,7 @@ use Rattle.std.specs.Prelude.{Bool, List, ◌⊎◌, ◌/◌, ◌<◌, ◌≤◌
 use Rattle.std.proofs.Math.Bool.{false, true}
 use Rattle.std.proofs.Common.{⊎_elim, ◌∙◌, sym, add-zero, arith, lit≤, le-leb, leb-true, lt-ltb, ltb-true}
 use Rattle.std.proofs.Math.Path.{◌≡◌, ap, refl}
-use Rattle.payload.specs.Choice.{if◌then◌else◌}
+use Rattle.payload.specs.Choice.{when◌then◌else◌}
 use Rattle.payload.specs.House.{checked, house}
 use Rattle.payload.proofs.Laws.Further.{Like, Room, alike, equal, freed, further, lacks}
 use Rattle.payload.proofs.Laws.Moved.{still}
@@ -61,10 +61,10 @@ module _ (c d : Capacities) (h : Larger c d) where
   unfolding reading
   larger_reading names p g = go (ltb size_limit (length p)) g
     where
-      go : (t : Bool) → HasRoom (if◌then◌else◌ t (refused 16 0) (read_payload c (is_listed names) (start p)))
-          → ◌≡◌ {A = Result Payload} (if◌then◌else◌ t (refused 16 0) (read_payload d (is_listed names) (start p))) (if◌then◌else◌ t (refused 16 0) (read_payload c (is_listed names) (start p)))
-      go true g = unfold if◌then◌else◌ in refl
-      go false g = unfold if◌then◌else◌ in (larger_payload (is_listed names) (start p) g)
+      go : (t : Bool) → HasRoom (when◌then◌else◌ t (refused 16 0) (read_payload c (is_listed names) (start p)))
+          → ◌≡◌ {A = Result Payload} (when◌then◌else◌ t (refused 16 0) (read_payload d (is_listed names) (start p))) (when◌then◌else◌ t (refused 16 0) (read_payload c (is_listed names) (start p)))
+      go true g = unfold when◌then◌else◌ in refl
+      go false g = unfold when◌then◌else◌ in (larger_payload (is_listed names) (start p) g)
 
   pub larger_house : (names p : List ℕ) → HasRoom (house c names p) → house d names p ≡ house c names p
   unfolding house checked

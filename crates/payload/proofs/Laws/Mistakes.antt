@@ -6,7 +6,7 @@ use Rattle.slices.specs.Same.{same}
 use Rattle.utf8.specs.Utf8.{char_of, is_four, is_one, is_three, is_two, passes}
 use Rattle.varint.specs.Uleb128.{groups, uleb128}
 use Rattle.varint.specs.Varint.{scan, varint_of}
-use Rattle.payload.specs.Choice.{◌and◌, if◌then◌else◌}
+use Rattle.payload.specs.Choice.{◌and◌, when◌then◌else◌}
 use Rattle.payload.specs.Equal.{is_part, singles, view_one, view_row, view_words}
 use Rattle.payload.specs.House.{all_named, checked, house, house_written, is_ok}
 use Rattle.payload.proofs.Laws.ProofTable.{number_read, part_read, payload_read, table_sizes}
@@ -48,7 +48,7 @@ pub record Mistakes : Type 0 where
   pub minus_zero : view_row [] (2 ∷ 2 ^ 63 ∷ 0 ∷ 0 ∷ 0 ∷ []) ≡ (2 ∷ []) ∷ (2 ^ 63 ∷ []) ∷ (0 ∷ []) ∷ (0 ∷ []) ∷ (0 ∷ []) ∷ []
 
 pub mistakes : Mistakes
-unfolding if◌then◌else◌ ◌and◌ and_then ◌>>=◌ ◌>>◌ pure here must first_byte byte body new_row new_spans is_in index_of interned onto names_of is_listed after_varint varint is_scalar
+unfolding when◌then◌else◌ ◌and◌ and_then ◌>>=◌ ◌>>◌ pure here must first_byte byte body new_row new_spans is_in index_of interned onto names_of is_listed after_varint varint is_scalar
     fits_signed fits_kind write_number cut_to cut_tested cut_to_signed read_float read_number same_span join runs_of expand total write_delta write_deltas write_runs write_code read_position
     read_runs read_code small_spans shapes shape is_key_tag kinds_of kind_of cons node_of single item_value items_value key_of forget_item forget_items forget_trees forget_node size
     span_item span_items span_count forget_line forget_script start_count part_words item_words items_words root_count kids_count_words count_words kind_width kinds_width unused_words

@@ -14,7 +14,7 @@ use Rattle.signed.specs.Laws.Signed.{cut_high, cut_low, signed_high, signed_low,
 use Rattle.varint.specs.Laws.Uleb128.{below_or}
 use Rattle.signed.specs.Signed.{signed_of, word_of}
 use Rattle.varint.specs.Uleb128.{uleb128}
-use Rattle.payload.specs.Choice.{◌or◌, if◌then◌else◌}
+use Rattle.payload.specs.Choice.{◌or◌, when◌then◌else◌}
 use Rattle.payload.specs.Laws.Gives.{Gives, gives_as, gives_bind, gives_body, gives_byte, gives_here, gives_is, gives_must, gives_pure, gives_then}
 use Rattle.payload.specs.Laws.Pool.{and_right}
 use Rattle.payload.specs.Laws.Varint.{gives_varint}
@@ -84,7 +84,7 @@ module _ {c : Capacities} where
   gives_float n w h = gives_as (gives_bind (rw (length_to_le_bytes n w) at (gives_body {c = c} (to_le_bytes n w))) (λ l e. gives_pure _ (λ a. a ≡ w) (rw e (from_le_bytes_to_le_bytes n w h)))) (simp append-nil) refl refl
 
   pub gives_number : (k : NumberKind) (w : ℕ) → fits_kind k w ≡ true → Gives c (read_number k) (write_number k w) 0 0 (λ a. a ≡ w)
-  unfolding read_number write_number fits_kind if◌then◌else◌
+  unfolding read_number write_number fits_kind when◌then◌else◌
   gives_number u64 w e = gives_varint w (ltb-true w (2 ^ 64) e)
   gives_number u32 w e = gives_cut (2 ^ 32) w (ltb-true w (2 ^ 32) e) (omega arith)
   gives_number u16 w e = gives_cut (2 ^ 16) w (ltb-true w (2 ^ 16) e) (omega arith)

@@ -6,7 +6,7 @@ use Rattle.utf8.specs.Utf8.{char_of, is_four, is_one, is_three, is_two, passes}
 use Rattle.signed.specs.Signed.{zigzag_of}
 use Rattle.varint.specs.Uleb128.{groups, uleb128}
 use Rattle.varint.specs.Varint.{scan, varint_of}
-use Rattle.payload.specs.Choice.{◌and◌, if◌then◌else◌}
+use Rattle.payload.specs.Choice.{◌and◌, when◌then◌else◌}
 use Rattle.payload.specs.House.{all_named, checked, house, house_written, is_ok}
 use Rattle.payload.specs.Names.{is_listed, names_of, onto}
 use Rattle.payload.specs.Numbers.{after_varint, char, cut_tested, cut_to, cut_to_signed, fits_kind, fits_signed, handle, is_scalar, read_float, read_number, varint, write_number}
@@ -69,7 +69,7 @@ pub record ProofTable : Type 0 where
   pub listing_rows : payload_read (reading table_sizes [] listing) ≡ 0 ∷ 17 ∷ 32 ∷ 5 ∷ 1 ∷ 1 ∷ 0 ∷ 6 ∷ 2 ∷ 2 ∷ 0 ∷ 0 ∷ []
 
 pub proof_table : ProofTable
-unfolding if◌then◌else◌ ◌and◌ and_then ◌>>=◌ ◌>>◌ pure here must first_byte byte body new_row new_spans is_in index_of interned onto names_of is_listed after_varint varint is_scalar
+unfolding when◌then◌else◌ ◌and◌ and_then ◌>>=◌ ◌>>◌ pure here must first_byte byte body new_row new_spans is_in index_of interned onto names_of is_listed after_varint varint is_scalar
     fits_signed fits_kind write_number cut_to cut_tested cut_to_signed read_float read_number same_span join runs_of expand total write_delta write_deltas write_runs write_code read_position
     read_runs read_code small_spans shapes shape is_key_tag kinds_of kind_of cons node_of single item_value items_value key_of forget_item forget_items forget_trees forget_node size
     span_item span_items span_count forget_line forget_script start_count part_words item_words items_words root_count kids_count_words count_words kind_width kinds_width unused_words

@@ -14,7 +14,7 @@ use Rattle.slices.specs.Same.{same}
 use Rattle.utf8.specs.Utf8.{is_utf8}
 use Rattle.varint.specs.Laws.Uleb128.{uleb_some}
 use Rattle.varint.specs.Uleb128.{uleb128}
-use Rattle.payload.specs.Choice.{◌and◌, ◌or◌, if◌then◌else◌}
+use Rattle.payload.specs.Choice.{◌and◌, ◌or◌, when◌then◌else◌}
 use Rattle.payload.specs.Demand3.{Fits, Listed, all_items, all_of, item_listed}
 use Rattle.payload.specs.Laws.Gives.{Gives, gives_as, gives_at, gives_bind, gives_body, gives_byte, gives_check, gives_is, gives_pure}
 use Rattle.payload.specs.Laws.Pool.{and_both, and_left, and_right, interned_in, is_in_append}
@@ -137,11 +137,11 @@ module _ (l : List (List ℕ)) where
 interned_all : (f : List ℕ → Bool) (xs l : List (List ℕ)) → all f l ≡ true → all f xs ≡ true → all f (interned l xs) ≡ true
 unfolding interned all
 interned_all f [] l p q = p
-interned_all f (x ∷ xs) l p q = interned_all f xs (if◌then◌else◌ (is_in x l) l (l ++ (x ∷ []))) (go (is_in x l)) (and_right _ _ q)
+interned_all f (x ∷ xs) l p q = interned_all f xs (when◌then◌else◌ (is_in x l) l (l ++ (x ∷ []))) (go (is_in x l)) (and_right _ _ q)
   where
-    go : (t : Bool) → all f (if◌then◌else◌ t l (l ++ (x ∷ []))) ≡ true
-    go true = unfold if◌then◌else◌ in p
-    go false = unfold if◌then◌else◌ in (all_append f l (x ∷ []) p (and_both (and_left _ _ q) refl))
+    go : (t : Bool) → all f (when◌then◌else◌ t l (l ++ (x ∷ []))) ≡ true
+    go true = unfold when◌then◌else◌ in p
+    go false = unfold when◌then◌else◌ in (all_append f l (x ∷ []) p (and_both (and_left _ _ q) refl))
 
 utf8_item : (i : Item (List ℕ)) → item_sound i ≡ true → all is_utf8 (item_strings i) ≡ true
 unfolding item_sound item_strings all

@@ -9,7 +9,7 @@ use Rattle.std.proofs.Math.Dec.{eqb, leb}
 use Rattle.std.proofs.Math.ListN.{length}
 use borrow.Author.Tests.{eqb-true, le-leb, lt-ltb}
 use Rattle.varint.specs.Uleb128.{uleb128}
-use Rattle.payload.specs.Choice.{◌and◌, if◌then◌else◌}
+use Rattle.payload.specs.Choice.{◌and◌, when◌then◌else◌}
 use Rattle.payload.specs.Demand3.{all_items, all_of}
 use Rattle.payload.specs.Laws.Gives.{Gives, gives_as, gives_at, gives_bind, gives_byte, gives_check, gives_fits, gives_here, gives_is, gives_must, gives_pure, gives_row, gives_then}
 use Rattle.payload.proofs.Laws.Numbers.{gives_cut, gives_number}
@@ -286,7 +286,7 @@ module _ (e : Context) (l : List (List ℕ)) (pool_is : map (λ (x : Part). x.by
 
   pub chunk_is : (d : ℕ) (r : Reader (Node Part)) → Reads is_value_tag d r → (is : List (Item (List ℕ))) (ks : Trees (List ℕ)) → obey_rules d (node 32 is ks nil) ≡ true → all_items readable (node 32 is ks nil) ≡ true
       → Gives c (read_untagged e r 32 (ItemKind.code ∷ []) values) (tag_byte 32 ++ write_row (write_items l is) (shape 32) (write_trees l ks)) (suc (size ks)) (span_items is + span_count ks) (λ u. forget_node u ≡ node_of 32 is ks)
-  unfolding obey_rules shape all_items tag_byte write_row if◌then◌else◌ row_rule
+  unfolding obey_rules shape all_items tag_byte write_row when◌then◌else◌ row_rule
   chunk_is d r R is ks s h = gives_wrapped d r R 32 (ItemKind.code ∷ []) values is ks (and_left _ _ (and_left _ _ s)) (and_right _ _ (and_left _ _ s))
       (and_left _ _ (and_right _ _ s)) (and_left _ _ h) (and_left _ _ (and_right _ _ h))
 
@@ -295,7 +295,7 @@ module _ (e : Context) (l : List (List ℕ)) (pool_is : map (λ (x : Part). x.by
 
   field_is : (d : ℕ) (r : Reader (Node Part)) → Reads is_value_tag d r → (is : List (Item (List ℕ))) (ks : Trees (List ℕ)) → obey_rules d (node 33 is ks nil) ≡ true → all_items readable (node 33 is ks nil) ≡ true
       → Gives c (read_untagged e r 33 (ItemKind.string ∷ []) one_value) (tag_byte 33 ++ write_row (write_items l is) (shape 33) (write_trees l ks)) (suc (size ks)) (span_items is + span_count ks) (λ u. forget_node u ≡ node_of 33 is ks)
-  unfolding obey_rules shape all_items tag_byte write_row if◌then◌else◌ row_rule
+  unfolding obey_rules shape all_items tag_byte write_row when◌then◌else◌ row_rule
   field_is d r R is ks s h = gives_wrapped d r R 33 (ItemKind.string ∷ []) one_value is ks (and_left _ _ (and_left _ _ s)) (and_right _ _ (and_left _ _ s))
       (and_left _ _ (and_right _ _ s)) (and_left _ _ h) (and_left _ _ (and_right _ _ h))
 
@@ -344,7 +344,7 @@ module _ (e : Context) (l : List (List ℕ)) (pool_is : map (λ (x : Part). x.by
 
   module _ (d t : ℕ) (is : List (Item (List ℕ))) (ks : Trees (List ℕ)) (q : leb t 26 ≡ true) (s : obey_rules d (node t is ks nil) ≡ true) where
     lead_is : tag_byte t ≡ t ∷ []
-    unfolding tag_byte if◌then◌else◌
+    unfolding tag_byte when◌then◌else◌
     lead_is = rw q
 
     shaped_rule : row_rule (shape t) is (roots ks) ≡ true
@@ -352,7 +352,7 @@ module _ (e : Context) (l : List (List ℕ)) (pool_is : map (λ (x : Part). x.by
     shaped_rule = and_left _ _ s
 
     shaped_deep : (ltb 0 d and obey_rules (pred d) ks) ≡ true
-    unfolding obey_rules if◌then◌else◌
+    unfolding obey_rules when◌then◌else◌
     shaped_deep = rw q at (and_left _ _ (and_right _ _ s))
 
   module _ (t : ℕ) (is : List (Item (List ℕ))) (ks : Trees (List ℕ)) (h : all_items readable (node t is ks nil) ≡ true) where

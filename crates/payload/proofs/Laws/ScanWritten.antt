@@ -9,7 +9,7 @@ use native.Mathlib.Omega.{arith}
 use Rattle.std.proofs.Math.Dec.{eqb, leb}
 use borrow.Author.Tests.{eqb-true, le-leb}
 use Rattle.utf8.specs.Utf8.{is_utf8}
-use Rattle.payload.specs.Choice.{◌and◌, if◌then◌else◌}
+use Rattle.payload.specs.Choice.{◌and◌, when◌then◌else◌}
 use Rattle.payload.specs.Demand3.{all_items, all_of}
 use Rattle.payload.specs.Laws.Gives.{Gives, after_bytes, after_none, after_row_lem, gives_as, gives_bind, gives_is, gives_pure, gives_then}
 use Rattle.payload.specs.Laws.Pool.{and_both, and_left, and_right, false≢true}
@@ -280,14 +280,14 @@ module _ (c : Capacities) (store : List ℕ) where
 
   untagged_32 : (d : ℕ) (r : RowScan) → ScanReads is_value_tag d r → (is : List (Item Part)) (ks : Trees Part) → Known d (node 32 is ks nil)
       → Gives c (scan_untagged store r 32 (ItemKind.code ∷ []) values) (rows_of 32 is ks) (suc (size ks)) 0 (λ u. u ≡ node_of 32 (without_spans_items is) (without_spans ks))
-  unfolding scan_untagged row_words count_words shape if◌then◌else◌ obey_rules row_rule all_items forget_trees InTrees
+  unfolding scan_untagged row_words count_words shape when◌then◌else◌ obey_rules row_rule all_items forget_trees InTrees
   untagged_32 d r R is ks k = gives_as (gives_is _ (gives_word 32) (gives_row_check _ _ refl (gives_scan_vals d r R (any_row) 32 (ItemKind.code ∷ []) values is ks
       (and_left _ _ (and_left _ _ k.k_obeys)) (and_right _ _ (and_left _ _ k.k_obeys)) refl k.k_in.0 (and_left _ _ k.k_sound)
       (record { k_obeys = and_left _ _ (and_right _ _ k.k_obeys); k_sound = and_left _ _ (and_right _ _ k.k_sound); k_in = k.k_in.1 })))) refl (omega arith) refl
 
   untagged_33 : (d : ℕ) (r : RowScan) → ScanReads is_value_tag d r → (is : List (Item Part)) (ks : Trees Part) → Known d (node 33 is ks nil)
       → Gives c (scan_untagged store r 33 (ItemKind.string ∷ []) one_value) (rows_of 33 is ks) (suc (size ks)) 0 (λ u. u ≡ node_of 33 (without_spans_items is) (without_spans ks))
-  unfolding scan_untagged row_words count_words shape if◌then◌else◌ obey_rules row_rule all_items forget_trees InTrees
+  unfolding scan_untagged row_words count_words shape when◌then◌else◌ obey_rules row_rule all_items forget_trees InTrees
   untagged_33 d r R is ks k = gives_as (gives_is _ (gives_word 33) (gives_row_check _ _ refl (gives_scan_vals d r R (any_row) 33 (ItemKind.string ∷ []) one_value is ks
       (and_left _ _ (and_left _ _ k.k_obeys)) (and_right _ _ (and_left _ _ k.k_obeys)) refl k.k_in.0 (and_left _ _ k.k_sound)
       (record { k_obeys = and_left _ _ (and_right _ _ k.k_obeys); k_sound = and_left _ _ (and_right _ _ k.k_sound); k_in = k.k_in.1 })))) refl (omega arith) refl
@@ -340,7 +340,7 @@ module _ (c : Capacities) (store : List ℕ) where
     known_rule = and_left _ _ k.k_obeys
 
     known_deep : leb t 26 ≡ true → (ltb 0 d and obey_rules (pred d) (forget_trees ks)) ≡ true
-    unfolding obey_rules forget_trees if◌then◌else◌
+    unfolding obey_rules forget_trees when◌then◌else◌
     known_deep q = rw q at (and_left _ _ (and_right _ _ k.k_obeys))
 
     known_items : InItems store is

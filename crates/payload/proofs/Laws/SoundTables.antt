@@ -6,7 +6,7 @@ use Rattle.std.proofs.Math.Path.{◌≡◌, ap, refl}
 use Rattle.std.proofs.lemmas.List.{length-replicate}
 use Rattle.std.proofs.Math.Seq.{drop-length}
 use borrow.Author.Tests.{eq-eqb, eqb-true, le-leb, leb-true}
-use Rattle.payload.specs.Choice.{◌and◌, if◌then◌else◌}
+use Rattle.payload.specs.Choice.{◌and◌, when◌then◌else◌}
 use Rattle.payload.specs.Demand3.{all_items}
 use Rattle.payload.proofs.Laws.Given.{given_back, in_given, length_span_table, length_span_words, length_spans_of, obey_given, row_table_given, small_span_table, sound_given}
 use Rattle.payload.proofs.Laws.Given.{span_count_without, span_table_given, spans_of_words, words_of_spans}
@@ -42,8 +42,8 @@ rule_kinds (with_fields kn) is rs e = and_left _ _ e
 rule_kinds (with_template kn) is [] e = false≢true e
 rule_kinds (with_template kn) is (r ∷ rs) e = and_left _ _ e
 
-if_either : (b x y : Bool) (C : Type 0) → (x ≡ true → C) → (y ≡ true → C) → if◌then◌else◌ b x y ≡ true → C
-unfolding if◌then◌else◌
+if_either : (b x y : Bool) (C : Type 0) → (x ≡ true → C) → (y ≡ true → C) → when◌then◌else◌ b x y ≡ true → C
+unfolding when◌then◌else◌
 if_either true x y C f g e = f e
 if_either false x y C f g e = g e
 
@@ -101,10 +101,10 @@ fits_at (sh ∷ l) zero d e f = and_left _ _ e
 fits_at (sh ∷ l) (suc t) d e f = fits_at l t d (and_right _ _ e) f
 
 shape_fits : (t : ℕ) → fits_row (shape t) ≡ true
-unfolding shape if◌then◌else◌ fits_row kinds_width kind_width kinds_of count_words kids_count_words
+unfolding shape when◌then◌else◌ fits_row kinds_width kind_width kinds_of count_words kids_count_words
 shape_fits t = go (eqb t 32) (eqb t 33)
   where
-    go : (a b : Bool) → fits_row (if◌then◌else◌ a (with_kids (ItemKind.code ∷ []) values) (if◌then◌else◌ b (with_kids (ItemKind.string ∷ []) one_value) (get_or shapes t (with_kids [] no_value)))) ≡ true
+    go : (a b : Bool) → fits_row (when◌then◌else◌ a (with_kids (ItemKind.code ∷ []) values) (when◌then◌else◌ b (with_kids (ItemKind.string ∷ []) one_value) (get_or shapes t (with_kids [] no_value)))) ≡ true
     go true b = refl
     go false true = refl
     go false false = fits_at shapes t (with_kids [] no_value) (unfold all_fit shapes ◌and◌ in refl) refl
@@ -158,7 +158,7 @@ record HoldsLine (T : Tables) (x : Option (LineIndex Part)) : Type 0 where
   obeys : line_rule (forget_line x) ≡ true
 
 sound_line : (T : Tables) → line_sound T ≡ true → HoldsLine T (line_of T)
-unfolding line_sound line_of if◌then◌else◌ line_starts line_flag line_name InLine line_rule forget_line
+unfolding line_sound line_of when◌then◌else◌ line_starts line_flag line_name InLine line_rule forget_line
 sound_line T e = go (eqb T.flag 0) refl
   where
     go : (b : Bool) → eqb T.flag 0 ≡ b → HoldsLine T (line_of T)
@@ -186,7 +186,7 @@ sound_line T e = go (eqb T.flag 0) refl
         })
 
 line_holds : (T : Tables) (x : Option (LineIndex Part)) → HoldsLine T x → (line_sound T ≡ true) × (line_of T ≡ x)
-unfolding line_sound line_of if◌then◌else◌ line_starts line_flag line_name InLine line_rule forget_line is_nil
+unfolding line_sound line_of when◌then◌else◌ line_starts line_flag line_name InLine line_rule forget_line is_nil
 line_holds T none h = (rw h.flag_is (and_both (eq-eqb _ _ h.offset_is) (and_both (eq-eqb _ _ h.length_is) (rw h.starts_are))), rw h.flag_is)
 line_holds T (some x) h =
     let b : take T.name_length (drop T.name_offset T.store) ≡ x.name.bytes = rw (h.length_is, h.offset_is) h.name_in.its_bytes in (

@@ -9,7 +9,7 @@ use borrow.Author.Tests.{eq-eqb, eqb-true, le-ltb, lt-ltb, ltb-true}
 use Rattle.signed.specs.Laws.Signed.{unzigzag_zigzag, zigzag_range}
 use Rattle.signed.specs.Position.{in_range}
 use Rattle.signed.specs.Signed.{unzigzag_of, word_of, zigzag_of}
-use Rattle.payload.specs.Choice.{◌and◌, if◌then◌else◌}
+use Rattle.payload.specs.Choice.{◌and◌, when◌then◌else◌}
 use Rattle.payload.specs.Laws.Gives.{Gives, gives_as, gives_bind, gives_body, gives_by, gives_here, gives_is, gives_must, gives_pure, gives_spans, gives_then}
 use Rattle.payload.specs.Laws.Pool.{and_both, and_left, and_right}
 use Rattle.payload.specs.Laws.Varint.{gives_varint}
@@ -26,11 +26,11 @@ small_runs (r ∷ rs) = ltb r.span.start (2 ^ 63) and ltb r.span.end (2 ^ 63) an
 
 -- laws of the runs
 expand_join : (s : Span) (rs : List Run) → expand (join s rs) ≡ s ∷ expand rs
-unfolding expand join if◌then◌else◌
+unfolding expand join when◌then◌else◌
 expand_join s [] = refl
 expand_join s (r ∷ rs) = go (same_span s r.span) refl
   where
-    go : (t : Bool) → same_span s r.span ≡ t → expand (if◌then◌else◌ t (record { span = s; count = suc r.count } ∷ rs) (record { span = s; count = 1 } ∷ r ∷ rs)) ≡ s ∷ expand (r ∷ rs)
+    go : (t : Bool) → same_span s r.span ≡ t → expand (when◌then◌else◌ t (record { span = s; count = suc r.count } ∷ rs) (record { span = s; count = 1 } ∷ r ∷ rs)) ≡ s ∷ expand (r ∷ rs)
     go true q = rw (same_span_eq_lem s r.span q)
     go false q = refl
 
@@ -40,11 +40,11 @@ expand_runs [] = refl
 expand_runs (s ∷ ss) = expand_join s (runs_of ss) ∙ rw (expand_runs ss)
 
 total_join : (s : Span) (rs : List Run) → total (join s rs) ≡ suc (total rs)
-unfolding total join if◌then◌else◌
+unfolding total join when◌then◌else◌
 total_join s [] = refl
 total_join s (r ∷ rs) = go (same_span s r.span)
   where
-    go : (t : Bool) → total (if◌then◌else◌ t (record { span = s; count = suc r.count } ∷ rs) (record { span = s; count = 1 } ∷ r ∷ rs)) ≡ suc (r.count + total rs)
+    go : (t : Bool) → total (when◌then◌else◌ t (record { span = s; count = suc r.count } ∷ rs) (record { span = s; count = 1 } ∷ r ∷ rs)) ≡ suc (r.count + total rs)
     go true = omega arith
     go false = omega arith
 
@@ -54,11 +54,11 @@ total_runs [] = refl
 total_runs (s ∷ ss) = total_join s (runs_of ss) ∙ ap suc (total_runs ss)
 
 count_join : (s : Span) (rs : List Run) → length (join s rs) ≤ suc (length rs)
-unfolding join if◌then◌else◌
+unfolding join when◌then◌else◌
 count_join s [] = omega arith
 count_join s (r ∷ rs) = go (same_span s r.span)
   where
-    go : (t : Bool) → length (if◌then◌else◌ t (record { span = s; count = suc r.count } ∷ rs) (record { span = s; count = 1 } ∷ r ∷ rs)) ≤ suc (suc (length rs))
+    go : (t : Bool) → length (when◌then◌else◌ t (record { span = s; count = suc r.count } ∷ rs) (record { span = s; count = 1 } ∷ r ∷ rs)) ≤ suc (suc (length rs))
     go true = omega arith
     go false = omega arith
 
@@ -68,11 +68,11 @@ count_runs [] = omega arith
 count_runs (s ∷ ss) = let a = count_join s (runs_of ss) in let b = count_runs ss in omega arith
 
 small_join : (s : Span) (rs : List Run) → (ltb s.start (2 ^ 63) and ltb s.end (2 ^ 63)) ≡ true → small_runs rs ≡ true → small_runs (join s rs) ≡ true
-unfolding join if◌then◌else◌ small_runs
+unfolding join when◌then◌else◌ small_runs
 small_join s [] e f = and_both (and_left _ _ e) (and_both (and_right _ _ e) refl)
 small_join s (r ∷ rs) e f = go (same_span s r.span)
   where
-    go : (t : Bool) → small_runs (if◌then◌else◌ t (record { span = s; count = suc r.count } ∷ rs) (record { span = s; count = 1 } ∷ r ∷ rs)) ≡ true
+    go : (t : Bool) → small_runs (when◌then◌else◌ t (record { span = s; count = suc r.count } ∷ rs) (record { span = s; count = 1 } ∷ r ∷ rs)) ≡ true
     go true = and_both (and_left _ _ e) (and_both (and_right _ _ e) (and_right _ _ (and_right _ _ f)))
     go false = and_both (and_left _ _ e) (and_both (and_right _ _ e) f)
 

@@ -10,7 +10,7 @@ use Rattle.std.proofs.Math.ListN.{drop, length, replicate, take}
 use Rattle.std.proofs.Math.Seq.{length-take-le}
 use borrow.Author.Tests.{eq-eqb, eqb-true, leb-true, lt-ltb}
 use Rattle.utf8.specs.Utf8.{is_utf8}
-use Rattle.payload.specs.Choice.{◌and◌, if◌then◌else◌}
+use Rattle.payload.specs.Choice.{◌and◌, when◌then◌else◌}
 use Rattle.payload.specs.Demand3.{all_items, all_of}
 use Rattle.payload.proofs.Laws.Keeps.{invert, not_ok}
 use Rattle.payload.specs.Laws.Pool.{and_both, and_left, and_right, false≢true}
@@ -183,7 +183,7 @@ module _ (store : List ℕ) where
     pub n_tag : h u.tag ≡ true
     pub n_test : g u.tag (forget_items u.items) ≡ true
     pub n_rule : row_rule (shape u.tag) (forget_items u.items) (roots (forget_trees u.kids)) ≡ true
-    pub n_deep : if◌then◌else◌ (leb u.tag 26) (ltb 0 d and obey_rules (pred d) (forget_trees u.kids)) (obey_rules d (forget_trees u.kids)) ≡ true
+    pub n_deep : when◌then◌else◌ (leb u.tag 26) (ltb 0 d and obey_rules (pred d) (forget_trees u.kids)) (obey_rules d (forget_trees u.kids)) ≡ true
     pub n_items : InItems store u.items
     pub n_sound : all_of (item_row_sound) (forget_items u.items) ≡ true
     pub n_kids : InTrees store u.kids
@@ -324,7 +324,7 @@ module _ (store : List ℕ) where
 
   module _ (d : ℕ) (g : Test) (u : Node Part) (ws : List ℕ) where
     wrap_32 : BodyT (with_kids (ItemKind.code ∷ []) values) g d 32 u ws → NodeT (is_tag 32) g d u (32 ∷ ws)
-    unfolding row_words shape if◌then◌else◌
+    unfolding row_words shape when◌then◌else◌
     wrap_32 b = let e = b.b_tag in record {
       n_words = rw e (ap (λ (x : List ℕ). 32 ∷ x) b.b_words);
       n_tag = eq-eqb _ _ e;
@@ -338,7 +338,7 @@ module _ (store : List ℕ) where
     }
 
     wrap_33 : BodyT (with_kids (ItemKind.string ∷ []) one_value) g d 33 u ws → NodeT (is_tag 33) g d u (33 ∷ ws)
-    unfolding row_words shape if◌then◌else◌
+    unfolding row_words shape when◌then◌else◌
     wrap_33 b = let e = b.b_tag in record {
       n_words = rw e (ap (λ (x : List ℕ). 33 ∷ x) b.b_words);
       n_tag = eq-eqb _ _ e;
@@ -352,7 +352,7 @@ module _ (store : List ℕ) where
     }
 
     value_T : (t : ℕ) → leb t 26 ≡ true → BodyT (shape t) g d t u ws → NodeT is_value_tag g (suc d) u (t ∷ ws)
-    unfolding row_words if◌then◌else◌
+    unfolding row_words when◌then◌else◌
     value_T t q b = let e = b.b_tag in record {
       n_words = rw e (ap (λ (x : List ℕ). t ∷ x) b.b_words);
       n_tag = rw e q;

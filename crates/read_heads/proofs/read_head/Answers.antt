@@ -1,6 +1,6 @@
 -- `read_head` meets its contract: each class has its law.
 use Rattle.slices.specs.Laws.LittleEndian.{Bytes}
-use Rattle.payload.specs.Choice.{if◌then◌else◌}
+use Rattle.payload.specs.Choice.{when◌then◌else◌}
 use Rattle.payload.specs.Numbers.{read_number, u8, bool, char, f64, f32}
 use Rattle.payload.specs.Shapes.{kinds_of, shape, shapes}
 use Rattle.scalar.specs.Scalar.{const_of, is_scalar_tag, row_of, words_of}
@@ -16,31 +16,31 @@ unfolding const_of row_of words_of
 scalar_row-requires c = refl
 
 pub scalar_head-requires : goal.scalar_head-requires
-unfolding read_number kinds_of shape shapes is_scalar_tag if◌then◌else◌
+unfolding read_number kinds_of shape shapes is_scalar_tag when◌then◌else◌
 scalar_head-requires c =
     let small : Bytes c.args.bytes.now = λ j. omega (arith, c.shared_slice_known-1.given j) in
     fits_scalar small 4 u8 c.read_byte.result refl refl c.requires.0 c.read_byte.ensures
 
 pub scalar_head-requires-in-Bool : goal.scalar_head-requires-in-Bool
-unfolding kinds_of shape shapes is_scalar_tag if◌then◌else◌
+unfolding kinds_of shape shapes is_scalar_tag when◌then◌else◌
 scalar_head-requires-in-Bool c =
     let small : Bytes c.args.bytes.now = λ j. omega (arith, c.shared_slice_known-1.given j) in
     fits_scalar small 3 bool c.read_bool.result refl refl c.requires.0 c.read_bool.ensures
 
 pub scalar_head-requires-in-Char : goal.scalar_head-requires-in-Char
-unfolding kinds_of shape shapes is_scalar_tag if◌then◌else◌
+unfolding kinds_of shape shapes is_scalar_tag when◌then◌else◌
 scalar_head-requires-in-Char c =
     let small : Bytes c.args.bytes.now = λ j. omega (arith, c.shared_slice_known-1.given j) in
     fits_scalar small 5 char c.read_char.result refl refl c.requires.0 c.read_char.ensures
 
 pub scalar_head-requires-in-Float : goal.scalar_head-requires-in-Float
-unfolding kinds_of shape shapes is_scalar_tag if◌then◌else◌
+unfolding kinds_of shape shapes is_scalar_tag when◌then◌else◌
 scalar_head-requires-in-Float c =
     let small : Bytes c.args.bytes.now = λ j. omega (arith, c.shared_slice_known-1.given j) in
     fits_scalar small 2 f64 c.read_f64.result refl refl c.requires.0 c.read_f64.ensures
 
 pub scalar_head-requires-in-SFloat : goal.scalar_head-requires-in-SFloat
-unfolding kinds_of shape shapes is_scalar_tag if◌then◌else◌
+unfolding kinds_of shape shapes is_scalar_tag when◌then◌else◌
 scalar_head-requires-in-SFloat c =
     let small : Bytes c.args.bytes.now = λ j. omega (arith, c.shared_slice_known-1.given j) in
     fits_scalar small 25 f32 c.read_f32.result refl refl c.requires.0 c.read_f32.ensures

@@ -12,7 +12,7 @@ use Rattle.scan_rows.specs.Laws.Members.{no_function, function_unsound, function
 use mathlib.Core.Path.{refl, sym, ap, ◌∙◌}
 use Prim.Native.Nat.{◌+◌}
 use borrow.Author.Tests.{ne_eqb}
-use Rattle.payload.specs.Choice.{if◌then◌else◌}
+use Rattle.payload.specs.Choice.{when◌then◌else◌}
 use Rattle.payload.specs.Reader.{pure}
 use Rattle.payload.specs.Trees.{nil}
 use Rattle.row_layout.specs.Layout.{under_rules, count_word}
@@ -112,14 +112,14 @@ scan_template-returns-in-Bad t c =
     (sym c.is_tagged.ensures ∙ not-false _ c.if-not-is_tagged.false-raw) c.in-Bad.is c.scan_value.ensures
 
 pub scan_under-returns-then-rules-eq0 : goal.scan_under-returns-then-rules-eq0
-unfolding under_by scan_by if◌then◌else◌ pure
+unfolding under_by scan_by when◌then◌else◌ pure
 scan_under-returns-then-rules-eq0 t c =
     let args = c.args in
     found_under args.store.now args.rows.now args.i (scan_value args.store.now args.depth) 0
     (sym (c.under_rules-rules.ensures ∙ ap under_rules c.word_at-tag.ensures.0) ∙ c.if-rules-eq0.true) refl (record { found = (nil, refl, stay) })
 
 pub scan_under-returns-then-rules-eq1 : goal.scan_under-returns-then-rules-eq1
-unfolding under_by scan_by if◌then◌else◌ pure
+unfolding under_by scan_by when◌then◌else◌ pure
 scan_under-returns-then-rules-eq1 t c =
     let args = c.args in
     found_under args.store.now args.rows.now args.i (scan_value args.store.now args.depth) 1
@@ -138,7 +138,7 @@ scan_under-word_at-n-requires t c = (
 )
 
 pub scan_under-returns-then-rules-eq3 : goal.scan_under-returns-then-rules-eq3
-unfolding under_by scan_by if◌then◌else◌ pure
+unfolding under_by scan_by when◌then◌else◌ pure
 scan_under-returns-then-rules-eq3 t c =
     let args = c.args in
     found_under args.store.now args.rows.now args.i (scan_value args.store.now args.depth) 3
@@ -148,7 +148,7 @@ scan_under-returns-then-rules-eq3 t c =
     (found_count (omega arith) c.scan_entries.ensures)
 
 pub scan_under-returns-then-rules-eq4 : goal.scan_under-returns-then-rules-eq4
-unfolding under_by scan_by if◌then◌else◌ pure
+unfolding under_by scan_by when◌then◌else◌ pure
 scan_under-returns-then-rules-eq4 t c =
     let args = c.args in
     found_under args.store.now args.rows.now args.i (scan_value args.store.now args.depth) 4
@@ -157,7 +157,7 @@ scan_under-returns-then-rules-eq4 t c =
     ∙ ap (word_at args.rows.now args.i) (c.count_word.ensures ∙ ap count_word c.word_at-tag.ensures.0)) c.scan_entries-then-rules-eq4.ensures
 
 pub scan_under-returns-then-rules-eq5 : goal.scan_under-returns-then-rules-eq5
-unfolding under_by scan_by if◌then◌else◌ pure
+unfolding under_by scan_by when◌then◌else◌ pure
 scan_under-returns-then-rules-eq5 t c =
     let args = c.args in
     found_under args.store.now args.rows.now args.i (scan_value args.store.now args.depth) 5
@@ -168,7 +168,7 @@ scan_under-returns-then-rules-eq5 t c =
     c.scan_untagged.ensures))
 
 pub scan_under-returns-then-rules-eq6 : goal.scan_under-returns-then-rules-eq6
-unfolding under_by scan_by if◌then◌else◌ pure
+unfolding under_by scan_by when◌then◌else◌ pure
 scan_under-returns-then-rules-eq6 t c =
     let args = c.args in
     found_under args.store.now args.rows.now args.i (scan_value args.store.now args.depth) 6
@@ -177,7 +177,7 @@ scan_under-returns-then-rules-eq6 t c =
     c.scan_fields.ensures
 
 pub scan_under-returns-then-rules-eq7 : goal.scan_under-returns-then-rules-eq7
-unfolding under_by scan_by if◌then◌else◌ pure
+unfolding under_by scan_by when◌then◌else◌ pure
 scan_under-returns-then-rules-eq7 t c =
     let args = c.args in
     found_under args.store.now args.rows.now args.i (scan_value args.store.now args.depth) 7
@@ -186,7 +186,7 @@ scan_under-returns-then-rules-eq7 t c =
     c.scan_template.ensures
 
 pub scan_under-returns : goal.scan_under-returns
-unfolding under_by scan_by if◌then◌else◌ pure
+unfolding under_by scan_by when◌then◌else◌ pure
 scan_under-returns t c =
     let if3 = c.if-rules-eq3 in
     let if1 = c.if-rules-eq0 in

@@ -3,7 +3,7 @@ use mathlib.Core.Path.{◌≡◌, refl, sym, ap, ◌∙◌}
 use Prim.Native.Nat.{◌+◌, ◌*◌}
 use native.Mathlib.Omega.{arith}
 use borrow.Author.Tests.{eq-eqb, ne_eqb}
-use Rattle.payload.specs.Choice.{if◌then◌else◌}
+use Rattle.payload.specs.Choice.{when◌then◌else◌}
 use Rattle.row_layout.specs.Layout.{count_word}
 use Rattle.scan_rows.specs.Laws.Fits.{count_low}
 use Rattle.scan_rows.specs.Laws.Under.{under_at}
@@ -12,7 +12,7 @@ use Rattle.scan_rows.specs.Under.{under_by}
 use Rattle.scan_rows.proofs.rows_under.Goals as goal
 
 pub returns-then-rules-eq0 : goal.returns-then-rules-eq0
-unfolding under_by if◌then◌else◌
+unfolding under_by when◌then◌else◌
 returns-then-rules-eq0 c =
     let args = c.args in
     sym
@@ -20,7 +20,7 @@ returns-then-rules-eq0 c =
     ∙ rw (eq-eqb c.under_rules-rules.result 0 c.if-rules-eq0.true))
 
 pub returns-then-rules-eq1 : goal.returns-then-rules-eq1
-unfolding under_by if◌then◌else◌
+unfolding under_by when◌then◌else◌
 returns-then-rules-eq1 c =
     let args = c.args in
     sym
@@ -40,7 +40,7 @@ word_at-n-requires c =
     )
 
 pub returns-then-rules-eq5 : goal.returns-then-rules-eq5
-unfolding under_by if◌then◌else◌
+unfolding under_by when◌then◌else◌
 returns-then-rules-eq5 c =
     let args = c.args in
     sym
@@ -53,7 +53,7 @@ returns-then-rules-eq5 c =
     ))
 
 pub overflow_mul-result : goal.overflow_mul-result
-unfolding under_by if◌then◌else◌
+unfolding under_by when◌then◌else◌
 overflow_mul-result c =
     let if1 = c.if-rules-eq0 in
     let args = c.args in
@@ -68,7 +68,7 @@ overflow_mul-result c =
     omega (arith, e, c.requires.1)
 
 pub returns-then-rules-eq4 : goal.returns-then-rules-eq4
-unfolding under_by if◌then◌else◌
+unfolding under_by when◌then◌else◌
 returns-then-rules-eq4 c =
     let if1 = c.if-rules-eq0 in
     let args = c.args in
@@ -84,7 +84,7 @@ returns-then-rules-eq4 c =
     ))
 
 pub overflow_add-result : goal.overflow_add-result
-unfolding under_by if◌then◌else◌
+unfolding under_by when◌then◌else◌
 overflow_add-result c =
     let if2 = c.if-rules-eq1 in
     let if1 = c.if-rules-eq0 in
@@ -101,7 +101,7 @@ overflow_add-result c =
     omega (arith, e, c.requires.1)
 
 pub returns-then-rules-eq7 : goal.returns-then-rules-eq7
-unfolding under_by if◌then◌else◌
+unfolding under_by when◌then◌else◌
 returns-then-rules-eq7 c =
     let if2 = c.if-rules-eq1 in
     let if1 = c.if-rules-eq0 in
@@ -119,7 +119,7 @@ returns-then-rules-eq7 c =
     ))
 
 pub returns : goal.returns
-unfolding under_by if◌then◌else◌
+unfolding under_by when◌then◌else◌
 returns c =
     let if2 = c.if-rules-eq1 in
     let if1 = c.if-rules-eq0 in

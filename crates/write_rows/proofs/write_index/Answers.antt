@@ -8,7 +8,7 @@ use lib.ListN.{length}
 use Rattle.slices.specs.Same.{same}
 use Rattle.varint.specs.Laws.Uleb128.{uleb_small}
 use Rattle.varint.specs.Uleb128.{uleb128}
-use Rattle.payload.specs.Choice.{if◌then◌else◌}
+use Rattle.payload.specs.Choice.{when◌then◌else◌}
 use Rattle.payload.specs.Pool.{index_of}
 use Rattle.emit.specs.Emit.{further}
 use Rattle.emit.specs.Laws.Bytes.{emitted_past}
@@ -18,11 +18,11 @@ use Rattle.pool_index.specs.Strings.{bytes_at, pool_strings}
 use Rattle.write_rows.proofs.write_index.Goals as goal
 
 index_le : (x : List ℕ) (l : List (List ℕ)) → index_of x l ≤ length l
-unfolding index_of if◌then◌else◌
+unfolding index_of when◌then◌else◌
 index_le x [] = omega arith
 index_le x (y ∷ l) = go (same x y) (index_le x l)
   where
-    go : (t : Bool) → index_of x l ≤ length l → if◌then◌else◌ t 0 (suc (index_of x l)) ≤ suc (length l)
+    go : (t : Bool) → index_of x l ≤ length l → when◌then◌else◌ t 0 (suc (index_of x l)) ≤ suc (length l)
     go true h = omega arith
     go false h = omega arith
 

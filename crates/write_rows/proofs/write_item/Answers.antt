@@ -4,7 +4,7 @@ use mathlib.Core.Path.{ap}
 use Prim.Native.Nat.{ℕ}
 use native.Mathlib.Omega.{arith}
 use borrow.Author.Tests.{ne_eqb}
-use Rattle.payload.specs.Choice.{if◌then◌else◌}
+use Rattle.payload.specs.Choice.{when◌then◌else◌}
 use Rattle.payload.specs.Sound.{spans_of}
 use Rattle.payload.specs.Spans.{write_code}
 use Rattle.emit.specs.Laws.Emit.{emitted_as, emitted_none}
@@ -18,13 +18,13 @@ returns-then-form-lt6 c =
     emitted_as (item_number _ _ _ args.form args.a args.b c.if-form-lt6.true) c.write_number-next.ensures
 
 pub returns-then-form-eq6 : goal.returns-then-form-eq6
-unfolding item_bytes if◌then◌else◌
+unfolding item_bytes when◌then◌else◌
 returns-then-form-eq6 c =
     let if2 = c.if-form-eq6 in
     rw if2.true c.write_index.ensures
 
 pub returns-then-form-eq7 : goal.returns-then-form-eq7
-unfolding item_bytes if◌then◌else◌
+unfolding item_bytes when◌then◌else◌
 returns-then-form-eq7 c =
     let args = c.args in
     rw c.if-form-eq7.true
@@ -32,7 +32,7 @@ returns-then-form-eq7 c =
     c.write_chunk-next.ensures)
 
 pub returns : goal.returns
-unfolding item_bytes if◌then◌else◌
+unfolding item_bytes when◌then◌else◌
 returns c =
     let form = c.args.form in
     let h = c.if-form-lt6.false in

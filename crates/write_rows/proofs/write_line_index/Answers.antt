@@ -3,13 +3,13 @@ use mathlib.Core.Path.{ap}
 use native.Mathlib.Omega.{arith}
 use borrow.Author.Tests.{eq-eqb, ne_eqb}
 use Rattle.varint.specs.Uleb128.{uleb128}
-use Rattle.payload.specs.Choice.{if◌then◌else◌}
+use Rattle.payload.specs.Choice.{when◌then◌else◌}
 use Rattle.emit.specs.Laws.Emit.{emitted_then, emitted_as, emitted_long, emitted_ready}
 use Rattle.write_rows.specs.Payload.{line_bytes}
 use Rattle.write_rows.proofs.write_line_index.Goals as goal
 
 pub returns-then-flag-eq0 : goal.returns-then-flag-eq0
-unfolding line_bytes if◌then◌else◌
+unfolding line_bytes when◌then◌else◌
 returns-then-flag-eq0 c =
     let args = c.args in
     rw (eq-eqb args.flag 0 c.if-flag-eq0.true) c.emit_byte.ensures
@@ -39,7 +39,7 @@ write_starts-requires c =
     }
 
 pub returns : goal.returns
-unfolding line_bytes if◌then◌else◌
+unfolding line_bytes when◌then◌else◌
 returns c =
     let if1 = c.if-flag-eq0 in
     rw (ne_eqb c.args.flag 0 if1.false)

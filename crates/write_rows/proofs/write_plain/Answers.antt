@@ -1,13 +1,13 @@
 -- `write_rows::write_plain` meets its contract: a string is its index, and any other item is a number. Assumes nothing.
 use native.Mathlib.Omega.{arith}
-use Rattle.payload.specs.Choice.{if◌then◌else◌}
+use Rattle.payload.specs.Choice.{when◌then◌else◌}
 use Rattle.emit.specs.Laws.Emit.{emitted_as}
 use Rattle.write_rows.specs.Laws.Walk.{item_number}
 use Rattle.write_rows.specs.Walk.{item_bytes}
 use Rattle.write_rows.proofs.write_plain.Goals as goal
 
 pub returns-then-form-eq6 : goal.returns-then-form-eq6
-unfolding item_bytes if◌then◌else◌
+unfolding item_bytes when◌then◌else◌
 returns-then-form-eq6 c =
     let if1 = c.if-form-eq6 in
     rw if1.true c.write_index.ensures

@@ -8,7 +8,7 @@ use Rattle.read_values.proofs.Shape.{row_full, row_room}
 use Rattle.read_values.proofs.Value.{code_of, did_chunk, no_chunk, no_code_lem, no_code_of}
 use Prim.Native.Nat.{suc}
 use mathlib.Core.Path.{refl, sym, ap, ◌∙◌}
-use Rattle.payload.specs.Choice.{if◌then◌else◌}
+use Rattle.payload.specs.Choice.{when◌then◌else◌}
 use Rattle.payload.specs.Numbers.{u16}
 use Rattle.payload.specs.Reader.{and_then, ◌>>=◌}
 use Rattle.payload.specs.Rows.{root_count}
@@ -131,7 +131,7 @@ read_closure-bounds-rows-inner t c =
     rw c.with_row-inner.ensures (omega (arith, g.1.size, g.1.used, some_words g.0, c.requires.fit, c.read_value.auto))
 
 pub read_closure-returns-then-rows-inner-ne7 : goal.read_closure-returns-then-rows-inner-ne7
-unfolding shape shapes if◌then◌else◌ shape_of
+unfolding shape shapes when◌then◌else◌ shape_of
 read_closure-returns-then-rows-inner-ne7 t c =
     let g = ran_of c.in-Done.is (rw c.with_row-inner.ensures at c.read_value.ensures) in
     let taken = rw c.with_row-inner.ensures at c.if-rows-inner-ne7.true in
@@ -165,7 +165,7 @@ read_closure-shape_of-spans-in-Row t c =
     omega (arith, c.read_value.auto, c.read_values.auto)
 
 pub read_closure-returns-in-Row : goal.read_closure-returns-in-Row
-unfolding shape shapes if◌then◌else◌ shape_of and_then ◌>>=◌ rows_under root_count cons
+unfolding shape shapes when◌then◌else◌ shape_of and_then ◌>>=◌ rows_under root_count cons
 read_closure-returns-in-Row t c =
     let if1 = c.if-rows-inner-ne7 in
     let args = c.args in
@@ -183,7 +183,7 @@ read_closure-returns-in-Row t c =
     (rw c.at_place.ensures at c.read_values.ensures))
 
 pub read_closure-returns-in-Refused-read_closure_head : goal.read_closure-returns-in-Refused-read_closure_head
-unfolding shape shapes if◌then◌else◌ shape_of and_then
+unfolding shape shapes when◌then◌else◌ shape_of and_then
 read_closure-returns-in-Refused-read_closure_head t c =
     let args = c.args in
     let g = ran_of c.in-Done.is (rw c.with_row-inner.ensures at c.read_value.ensures) in
@@ -197,7 +197,7 @@ read_closure-returns-in-Refused-read_closure_head t c =
     }
 
 pub read_closure-returns-in-Refused : goal.read_closure-returns-in-Refused
-unfolding shape shapes if◌then◌else◌ shape_of
+unfolding shape shapes when◌then◌else◌ shape_of
 read_closure-returns-in-Refused t c =
     record {
       out = closure_no _ _ 18 (ItemKind.number u16 ∷ []) _ (no_of c.in-Refused.is (rw c.with_row-inner.ensures at c.read_value.ensures));
@@ -302,7 +302,7 @@ read_field-read_values-requires t c =
     )
 
 pub read_field-returns-in-Row : goal.read_field-returns-in-Row
-unfolding context_of shape if◌then◌else◌ no_template read_under
+unfolding context_of shape when◌then◌else◌ no_template read_under
 read_field-returns-in-Row t c =
     let if1 = c.if-capacities-state in
     let args = c.args in
@@ -312,7 +312,7 @@ read_field-returns-in-Row t c =
     c.read_values.ensures)
 
 pub read_field-returns-in-Refused : goal.read_field-returns-in-Refused
-unfolding context_of shape if◌then◌else◌ no_template read_under
+unfolding context_of shape when◌then◌else◌ no_template read_under
 read_field-returns-in-Refused t c =
     let args = c.args in
     did_same (row_room _ _ args.bytes.now args.state 33 (ItemKind.string ∷ []) one_value c.if-capacities-state.false)
