@@ -4,7 +4,6 @@ use mathlib.Core.List.{List}
 use Prim.Native.Nat.{ℕ, ◌≤◌, ◌<◌}
 use native.Mathlib.Omega.{arith}
 use lib.ListN.{length}
-use borrow.Author.Rules.{rules}
 use borrow.Author.Tests.{lt-ltb, le-ltb}
 use Rattle.slices.specs.Put.{put}
 use Rattle.slices.specs.LittleEndian.{to_le_bytes}
@@ -14,8 +13,7 @@ use Rattle.varint.specs.declared.Varint.{Varint}
 use Rattle.varint.specs.declared.Varint.TheVariants.{Number, Refused}
 use Rattle.varint.specs.Varint.{varint_of}
 use Rattle.host.specs.Host.{used_of, number_after}
-use Rattle.host.proofs.rlc2_uvarint.Statement.{statement}
-use Rattle.host.proofs.rlc2_uvarint.Tie as tie
+use Rattle.host.proofs.rlc2_uvarint.Goals as goal
 
 -- what the contract says of a read, of `number`, and of the result and what `number` holds then
 abbrev Said : Varint → List ℕ → ℕ → List ℕ → Type 0
@@ -33,35 +31,24 @@ module _ (number : List ℕ) (h : 8 ≤ length number) where
   refused : (refusal place : ℕ) → Said (Refused refusal place) number 0 number
   refused refusal place = (simp (le-ltb (length number) 8 h), refl)
 
-returns : tie.Need-returns
-returns c =
-    let s = c.before.before.before in
-    no_room (varint_of s.args.bytes.now 0) s.args.number.now c.if1.true
+pub returns-then-number-lt8-clause-value : goal.returns-then-number-lt8-clause-value
+returns-then-number-lt8-clause-value c = (no_room (varint_of c.args.bytes.now 0) c.args.number.now c.if-number-lt8.true).0
 
-returns_2 : tie.Need-returns-2
-returns_2 c =
-    let arm = c.before.before.before.before.before in
-    let uvarint = arm.before.before.uvarint in
-    let if1 = arm.before.before.before.if1 in
-    let s = arm.before.before.before.before.before.before in
-    let said = read s.args.number.now if1.false _ _ in
-    rw (sym uvarint.ensures ∙ arm.n.given.1) (said.0, c.before.before.put_word.ensures ∙ said.1)
+pub returns-then-number-lt8-clause-number_after : goal.returns-then-number-lt8-clause-number_after
+returns-then-number-lt8-clause-number_after c = (no_room (varint_of c.args.bytes.now 0) c.args.number.now c.if-number-lt8.true).1
 
-returns_3 : tie.Need-returns-3
-returns_3 c =
-    let s = c.before.before.before.before.before.before in
-    rw (sym c.before.before.uvarint.ensures ∙ c.enum_told.given.1)
-    (refused s.args.number.now c.before.before.before.if1.false c.enum_told.given.0.0 c.enum_told.given.0.1.0)
+pub returns-in-Number-clause-value : goal.returns-in-Number-clause-value
+returns-in-Number-clause-value c =
+    rw (sym c.uvarint.ensures ∙ c.in-Number.is) (read c.args.number.now c.if-number-lt8.false c.in-Number.n c.in-Number.next).0
 
-pub rlc2_uvarint_spec : {M : Type 1} → statement M
-rlc2_uvarint_spec =
-    tie.close
-    (tie.spec
-    returns
-    (λ c κs. search rules)
-    (λ c. search rules)
-    (λ c κs. search rules)
-    (λ c. search rules)
-    (λ c. search rules)
-    returns_2
-    returns_3)
+pub returns-in-Number-clause-number_after : goal.returns-in-Number-clause-number_after
+returns-in-Number-clause-number_after c =
+    rw (sym c.uvarint.ensures ∙ c.in-Number.is) (c.put_word.ensures ∙ (read c.args.number.now c.if-number-lt8.false c.in-Number.n c.in-Number.next).1)
+
+pub returns-in-Refused-clause-value : goal.returns-in-Refused-clause-value
+returns-in-Refused-clause-value c =
+    rw (sym c.uvarint.ensures ∙ c.in-Refused.is) (refused c.args.number.now c.if-number-lt8.false c.in-Refused.field-0 c.in-Refused.field-1).0
+
+pub returns-in-Refused-clause-number_after : goal.returns-in-Refused-clause-number_after
+returns-in-Refused-clause-number_after c =
+    rw (sym c.uvarint.ensures ∙ c.in-Refused.is) (refused c.args.number.now c.if-number-lt8.false c.in-Refused.field-0 c.in-Refused.field-1).1
