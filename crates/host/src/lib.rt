@@ -1,4 +1,6 @@
 // The calls that are exported for the Rust player, where a slice is a pointer and a length.
+#![tactic(auto)]
+
 ghost use Rattle.std.specs.Prelude.{◌≡◌, ◌≤◌, length};
 ghost use Rattle.slices.specs.Put.{put};
 ghost use Rattle.slices.specs.LittleEndian.{to_le_bytes};

@@ -1,11 +1,5 @@
 -- `rlc2_uvarint` meets its contract: no room for the number, a number, a refusal.
-use mathlib.Core.Path.{◌≡◌, refl, sym, ◌∙◌}
-use mathlib.Core.List.{List}
-use Prim.Native.Nat.{ℕ, ◌≤◌, ◌<◌}
-use native.Mathlib.Omega.{arith}
-use lib.ListN.{length}
-use borrow.Author.Rules.{rules}
-use borrow.Author.Tests.{lt-ltb, le-ltb}
+use Rattle.std.proofs.Common.{◌≡◌, ℕ, ◌<◌, ◌≤◌, List, length, refl, sym, ◌∙◌, arith, lt-ltb, le-ltb}
 use Rattle.slices.specs.Put.{put}
 use Rattle.slices.specs.LittleEndian.{to_le_bytes}
 use Rattle.slices.specs.Laws.LittleEndian.{length_to_le_bytes}
@@ -14,8 +8,7 @@ use Rattle.varint.specs.declared.Varint.{Varint}
 use Rattle.varint.specs.declared.Varint.TheVariants.{Number, Refused}
 use Rattle.varint.specs.Varint.{varint_of}
 use Rattle.host.specs.Host.{used_of, number_after}
-use Rattle.host.proofs.rlc2_uvarint.Statement.{statement}
-use Rattle.host.proofs.rlc2_uvarint.Tie as tie
+use Rattle.host.proofs.rlc2_uvarint.Goals as goal
 
 -- what the contract says of a read, of `number`, and of the result and what `number` holds then
 abbrev Said : Varint → List ℕ → ℕ → List ℕ → Type 0
@@ -33,35 +26,17 @@ module _ (number : List ℕ) (h : 8 ≤ length number) where
   refused : (refusal place : ℕ) → Said (Refused refusal place) number 0 number
   refused refusal place = (simp (le-ltb (length number) 8 h), refl)
 
-returns : tie.Need-returns
-returns c =
-    let s = c.before.before.before in
-    no_room (varint_of s.args.bytes.now 0) s.args.number.now c.if1.true
+pub returns-then-number-lt8 : goal.returns-then-number-lt8
+returns-then-number-lt8 c =
+    let said = no_room (varint_of c.args.bytes.now 0) c.args.number.now c.if-number-lt8.true in
+    record { value = said.0; number_after = said.1 }
 
-returns_2 : tie.Need-returns-2
-returns_2 c =
-    let arm = c.before.before.before.before.before in
-    let uvarint = arm.before.before.uvarint in
-    let if1 = arm.before.before.before.if1 in
-    let s = arm.before.before.before.before.before.before in
-    let said = read s.args.number.now if1.false _ _ in
-    rw (sym uvarint.ensures ∙ arm.n.given.1) (said.0, c.before.before.put_word.ensures ∙ said.1)
+pub returns-in-Number : goal.returns-in-Number
+returns-in-Number c =
+    let said = read c.args.number.now c.if-number-lt8.false _ _ in
+    rw (sym c.uvarint.ensures ∙ c.in-Number.is) (record { value = said.0; number_after = c.put_word.ensures ∙ said.1 })
 
-returns_3 : tie.Need-returns-3
-returns_3 c =
-    let s = c.before.before.before.before.before.before in
-    rw (sym c.before.before.uvarint.ensures ∙ c.enum_told.given.1)
-    (refused s.args.number.now c.before.before.before.if1.false c.enum_told.given.0.0 c.enum_told.given.0.1.0)
-
-pub rlc2_uvarint_spec : {M : Type 1} → statement M
-rlc2_uvarint_spec =
-    tie.close
-    (tie.spec
-    returns
-    (λ c κs. search rules)
-    (λ c. search rules)
-    (λ c κs. search rules)
-    (λ c. search rules)
-    (λ c. search rules)
-    returns_2
-    returns_3)
+pub returns-in-Refused : goal.returns-in-Refused
+returns-in-Refused c =
+    let said = refused c.args.number.now c.if-number-lt8.false c.in-Refused.field-0 c.in-Refused.field-1 in
+    rw (sym c.uvarint.ensures ∙ c.in-Refused.is) (record { value = said.0; number_after = said.1 })
