@@ -1,4 +1,6 @@
 // The calls on lent tables for a Rust host. Each gives the refusal's number or 0, and puts its fields into the answer's first words.
+#![tactic(auto)]
+
 mod write;
 
 ghost use Rattle.std.specs.Prelude.{length};
