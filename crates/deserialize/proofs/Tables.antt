@@ -8,8 +8,8 @@ use lib.Seq.{length-take-le}
 use borrow.Author.Tests.{le-ltb, lt-ltb}
 use Rattle.payload.specs.Answers.{read_fields}
 use borrow.Rule.Slice.PartMut.{mid_of, put_same, put_mid}
-use Rattle.payload.specs.Choice.{if◌then◌else◌}
-use Rattle.payload.specs.Laws.Contracts.{fields_are}
+use Rattle.payload.specs.Choice.{when◌then◌else◌}
+use Rattle.payload.proofs.Laws.Contracts.{fields_are}
 use Rattle.payload.specs.Reader.{Result, and_then, refused, start, ◌>>=◌}
 use Rattle.payload.specs.Reading.{Payload, read_payload, read_pool}
 use Rattle.payload.specs.declared.Capacities.{Capacities}
@@ -79,18 +79,18 @@ pool_back pool m e = ap (λ (l : List ℕ). put_mid 0 m pool l) e ∙ put_same 0
 ---- the definition's steps
 
 pub too_large : (c : Capacities) (names p : List ℕ) → size_limit < length p → reading c names p ≡ refused 16 0
-unfolding reading if◌then◌else◌
+unfolding reading when◌then◌else◌
 too_large c names p h = rw (lt-ltb size_limit (length p) h)
 
 module _ (c : Capacities) (names p : List ℕ) (h : length p ≤ size_limit) where
   pub no_pool_read : {n q : ℕ} → read_pool c.strings (start p) ≡ refused n q → reading c names p ≡ refused n q
-  unfolding reading if◌then◌else◌ read_payload ◌>>=◌ and_then
+  unfolding reading when◌then◌else◌ read_payload ◌>>=◌ and_then
   no_pool_read e = rw (le-ltb size_limit (length p) h, e)
 
   -- the pool table was lent up to its used words
   module _ {pool pool₁ : List ℕ} {n next : ℕ} (room : 2 * c.strings ≤ length pool) (a : Accepted p pool pool₁ c.strings n next) (m : ℕ) (e : m ≡ 2 * n) where
     script_after_pool : reading c names p ≡ read_script (context_of c p names (take m pool₁)) (state_at p next 0 0)
-    unfolding reading if◌then◌else◌ read_payload read_script context_of ◌>>=◌ and_then
+    unfolding reading when◌then◌else◌ read_payload read_script context_of ◌>>=◌ and_then
     script_after_pool =
         let strings = rw (← e) at a.strings in
         rw (pool_plain a room m e h, le-ltb size_limit (length p) h, a.is, strings)

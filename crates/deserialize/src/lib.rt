@@ -1,4 +1,6 @@
 // A payload, read into tables that the caller lends.
+#![tactic(auto)]
+
 ghost use Rattle.std.specs.Prelude.{◌≡◌, ◌*◌, ◌/◌, ◌≤◌, length};
 ghost use Rattle.slices.specs.Zeros.{zeros};
 ghost use Rattle.payload.specs.Tables.{Leaves, capacities_of, reading};

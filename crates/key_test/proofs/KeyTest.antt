@@ -8,7 +8,7 @@ use lib.Dec.{eqb, leb}
 use lib.ListN.{drop, get_or, length, take}
 use lib.Seq.{drop-drop, get_or-drop, get_or-take}
 use borrow.Author.Tests.{leb-true}
-use Rattle.payload.specs.Choice.{if◌then◌else◌}
+use Rattle.payload.specs.Choice.{when◌then◌else◌}
 use Rattle.payload.specs.Laws.Pool.{false≢true}
 use Rattle.payload.specs.Rows.{kind_width, kinds_width, row_width}
 use Rattle.payload.specs.Shapes.{Shape, no_value, one_value, values, keys, pairs, with_kids, with_chunk, with_fields, with_template, shape, shapes}
@@ -106,31 +106,31 @@ module _ (rows : List ℕ) (at : ℕ) where
     told_first h = told_is ∙ first_told (shape t) words h ∙ ap (λ (n : ℕ). min most_rows n) (word_at_lem 0 (omega arith))
 
   pub told_function : get_or rows at 0 ≡ 7 → rows_told row ≡ 1
-  unfolding shape shapes if◌then◌else◌ one_kid
+  unfolding shape shapes when◌then◌else◌ one_kid
   told_function e = told_one 7 e refl
 
   pub told_native : get_or rows at 0 ≡ 8 → rows_told row ≡ 0
-  unfolding shape shapes if◌then◌else◌ no_kids
+  unfolding shape shapes when◌then◌else◌ no_kids
   told_native e = told_none 8 e refl
 
   pub told_field : get_or rows at 0 ≡ 33 → rows_told row ≡ 1
-  unfolding shape shapes if◌then◌else◌ one_kid
+  unfolding shape shapes when◌then◌else◌ one_kid
   told_field e = told_one 33 e refl
 
   pub told_pairs : get_or rows at 0 ≡ 15 → rows_told row ≡ 2 * min most_rows (get_or rows (at + 1) 0)
-  unfolding shape shapes if◌then◌else◌ rows_under count_in kinds_width
+  unfolding shape shapes when◌then◌else◌ rows_under count_in kinds_width
   told_pairs e = told_is 15 e ∙ ap (λ (n : ℕ). 2 * min most_rows n) (word_at_lem 0 (omega arith))
 
   pub told_record : get_or rows at 0 ≡ 16 → rows_told row ≡ min most_rows (get_or rows (at + 3) 0)
-  unfolding shape shapes if◌then◌else◌ rows_under count_in kinds_width kind_width
+  unfolding shape shapes when◌then◌else◌ rows_under count_in kinds_width kind_width
   told_record e = told_is 16 e ∙ ap (λ (n : ℕ). min most_rows n) (word_at_lem 2 (omega arith))
 
   pub told_closure : get_or rows at 0 ≡ 18 → rows_told row ≡ suc (min most_rows (get_or rows (at + 2) 0))
-  unfolding shape shapes if◌then◌else◌ rows_under count_in kinds_width kind_width
+  unfolding shape shapes when◌then◌else◌ rows_under count_in kinds_width kind_width
   told_closure e = told_is 18 e ∙ ap (λ (n : ℕ). suc (min most_rows n)) (word_at_lem 1 (omega arith))
 
   pub told_chunk : get_or rows at 0 ≡ 32 → rows_told row ≡ min most_rows (get_or rows (at + 3) 0)
-  unfolding shape shapes if◌then◌else◌ rows_under count_in kinds_width kind_width
+  unfolding shape shapes when◌then◌else◌ rows_under count_in kinds_width kind_width
   told_chunk e = told_is 32 e ∙ ap (λ (n : ℕ). min most_rows n) (word_at_lem 2 (omega arith))
 
 ---- the search, row by row

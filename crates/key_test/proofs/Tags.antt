@@ -7,7 +7,7 @@ use native.Mathlib.Omega.{arith}
 use lib.Dec.{eqb, leb, ltb}
 use lib.ListN.{get_or-eq_default}
 use borrow.Author.Tests.{ne_eqb, lt-leb, le-ltb, leb-true, leb-false}
-use Rattle.payload.specs.Choice.{if◌then◌else◌}
+use Rattle.payload.specs.Choice.{when◌then◌else◌}
 use Rattle.payload.specs.Shapes.{Shape, no_value, one_value, values, keys, pairs, with_kids, with_chunk, with_fields, with_template, shape, shapes}
 use Rattle.key_test.specs.Laws.Tags.{by_table, every}
 
@@ -32,7 +32,7 @@ module _ (t : ℕ) (h : 17 ≤ t) (a : t ≡ 18 → ⊥) (b : t ≡ 32 → ⊥) 
   high_in k = simp (le-ltb t 17 h, ne_eqb t 18 a) at (by_table (λ i sh. ltb i 17 || (eqb i 18 || no_kids sh)) refl t k)
 
   high_past : 27 ≤ t → no_kids (shape t) ≡ true
-  unfolding shape shapes if◌then◌else◌ no_kids
+  unfolding shape shapes when◌then◌else◌ no_kids
   high_past k = rw (ne_eqb t 32 b, ne_eqb t 33 c, get_or-eq_default shapes (with_kids [] no_value) k)
 
   pub high_none : no_kids (shape t) ≡ true

@@ -10,7 +10,7 @@ use lib.Seq.{drop-cons, get_or-drop, get_or-take}
 use borrow.Author.Tests.{eq-eqb, eqb-false, eqb-true, ltb-false, ltb-true, ne_eqb}
 use Rattle.slices.specs.Same.{same}
 use Rattle.slices.specs.Laws.Same.{same_eq, same_refl}
-use Rattle.payload.specs.Choice.{◌or◌, if◌then◌else◌}
+use Rattle.payload.specs.Choice.{◌or◌, when◌then◌else◌}
 use Rattle.payload.specs.Names.{is_listed, names_of, onto}
 use Rattle.payload.specs.Pool.{is_in}
 use Rattle.native_names.specs.NameEnds.{Clear, Decides, LastByte, MayEnd, NameEnds}
@@ -39,7 +39,7 @@ range_join P i j before here k l p = go (ltb k i) refl
 module _ (s : List ℕ) where
   name_here :
       (n i : ℕ) → Clear s i (i + n) → i + n < length s → get_or s (i + n) 0 ≡ 0x0A → names_of (drop i s) ≡ take n (drop i s) ∷ names_of (drop (suc (i + n)) s)
-  unfolding names_of if◌then◌else◌ onto
+  unfolding names_of when◌then◌else◌ onto
   name_here zero i h l e = let z : i + 0 ≡ i = omega arith in rw (z, drop-cons s i 0 (omega arith), eq-eqb (get_or s i 0) 0x0A (rw z at e))
   name_here (suc n) i h l e =
       let z : suc i + n ≡ i + suc n = omega arith in
@@ -47,7 +47,7 @@ module _ (s : List ℕ) where
       rw (drop-cons s i 0 (omega arith), ne_eqb (get_or s i 0) 0x0A (h i (omega arith) (omega arith)), ih, z)
 
   name_none : (n i : ℕ) → Clear s i (i + n) → i + n ≡ length s → names_of (drop i s) ≡ []
-  unfolding names_of if◌then◌else◌ onto
+  unfolding names_of when◌then◌else◌ onto
   name_none zero i h l = let y : length s ≤ i = omega arith in rw (drop_of_length-le s y)
   name_none (suc n) i h l =
       rw (
@@ -59,7 +59,7 @@ module _ (s : List ℕ) where
 -- the names after a 0A are the last ones
 later : (s : List ℕ) (i : ℕ) → i < length s → get_or s i 0 ≡ 0x0A
     → (name : List ℕ) × (names : List (List ℕ)) × (names_of s ≡ name ∷ (names ++ names_of (drop (suc i) s)))
-unfolding names_of if◌then◌else◌ onto
+unfolding names_of when◌then◌else◌ onto
 later [] i h e = absurd (omega arith)
 later (b ∷ bs) zero h e = ([], [], rw (eq-eqb b 0x0A e))
 later (b ∷ bs) (suc i) h e = go (eqb b 0x0A) refl (later bs i (omega arith) e)

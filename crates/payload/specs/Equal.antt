@@ -3,7 +3,6 @@ use Rattle.std.specs.Prelude.{Bool, false, true, List, [], ◌∷◌, ◌≡◌,
 use Rattle.payload.specs.Rows.{row_width}
 use Rattle.payload.specs.Shapes.{ItemKind, kinds_of, shape}
 use Rattle.payload.specs.Sound.{Tables}
-use Rattle.payload.specs.Trees.{code, native_name, number, record_name, string}
 
 -- whether two words, offset and length, name a part
 unfoldable pub is_part : ItemKind → Bool

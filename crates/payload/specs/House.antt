@@ -1,7 +1,7 @@
 -- The house check: reads, then passes exactly if the program is sound, all bytes are consumed and its writing is the payload; else 19.
 use Rattle.std.specs.Prelude.{Bool, false, true, List, ℕ, eqb}
 use Rattle.slices.specs.Same.{same}
-use Rattle.payload.specs.Choice.{◌and◌, if◌then◌else◌}
+use Rattle.payload.specs.Choice.{◌and◌, when◌then◌else◌}
 use Rattle.payload.specs.Reader.{Result, State, ok, refused}
 use Rattle.payload.specs.Reading.{Payload}
 use Rattle.payload.specs.declared.Capacities.{Capacities}
@@ -23,7 +23,7 @@ unfoldable pub house_written : List ℕ → Payload → State → Bool
 house_written p u s = is_nil s.rest and is_ok (script_of (tables_of p u.script)) and all_named (forget_script u.script) and same (writing (forget_script u.script)) p
 
 unfoldable pub checked : List ℕ → Result Payload → Result Payload
-checked p (ok u s) = if house_written p u s then ok u s else refused 19 0
+checked p (ok u s) = when house_written p u s then ok u s else refused 19 0
 checked p (refused n q) = refused n q
 
 unfoldable pub house : Capacities → List ℕ → List ℕ → Result Payload

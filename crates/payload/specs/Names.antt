@@ -1,6 +1,6 @@
 -- The names list: every name ends in 0A; what follows the last 0A counts for nothing.
 use Rattle.std.specs.Prelude.{Bool, List, [], ◌∷◌, ℕ, eqb}
-use Rattle.payload.specs.Choice.{if◌then◌else◌}
+use Rattle.payload.specs.Choice.{when◌then◌else◌}
 use Rattle.payload.specs.Pool.{is_in}
 
 -- a byte in front of the first name; with no name after it it belongs to none
@@ -10,7 +10,7 @@ onto b (name ∷ names) = (b ∷ name) ∷ names
 
 unfoldable pub names_of : List ℕ → List (List ℕ)
 names_of [] = []
-names_of (b ∷ bs) = let rest = names_of bs in if eqb b 0x0A then [] ∷ rest else onto b rest
+names_of (b ∷ bs) = let rest = names_of bs in when eqb b 0x0A then [] ∷ rest else onto b rest
 
 -- whether a native name is in the list
 unfoldable pub is_listed : List ℕ → List ℕ → Bool

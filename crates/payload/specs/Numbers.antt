@@ -6,7 +6,7 @@ use Rattle.varint.specs.Uleb128.{uleb128}
 use Rattle.varint.specs.Varint.{varint_of}
 use Rattle.varint.specs.declared.Varint.{Varint}
 use Rattle.varint.specs.declared.Varint.TheVariants.{Number, Refused}
-use Rattle.payload.specs.Choice.{◌and◌, ◌or◌, if◌then◌else◌}
+use Rattle.payload.specs.Choice.{◌and◌, ◌or◌, when◌then◌else◌}
 use Rattle.payload.specs.Reader.{Reader, ◌>>=◌, ◌>>◌, advanced, body, byte, here, must, ok, pure, refused}
 
 ---- varints
@@ -102,7 +102,7 @@ read_number i64 = varint >>= λ z. pure (unzigzag_word z)
 read_number i32 = cut_to_signed 32
 read_number i16 = cut_to_signed 16
 read_number i8 = cut_to_signed 8
-read_number bool = byte >>= λ b. pure (if eqb b 0 then 0 else 1)
+read_number bool = byte >>= λ b. pure (when eqb b 0 then 0 else 1)
 read_number char = cut_tested (2 ^ 32) is_scalar 6
 read_number handle = cut_tested (2 ^ 8) (λ v. leb v 5) 12
 read_number f64 = read_float 8

@@ -1,6 +1,6 @@
 -- The table of shapes by tag: what stands in a row after its tag, and what follows it. The only place for facts about tags.
 use Rattle.std.specs.Prelude.{Bool, List, [], ◌∷◌, ℕ, eqb, leb, get_or}
-use Rattle.payload.specs.Choice.{◌and◌, ◌or◌, if◌then◌else◌}
+use Rattle.payload.specs.Choice.{◌and◌, ◌or◌, when◌then◌else◌}
 use Rattle.payload.specs.Numbers.{NumberKind, bool, char, f32, f64, handle, i16, i32, i64, i8, u16, u32, u64, u8}
 
 -- What stands in a row after its tag, in the payload's order: a number of some kind, a string, a native's name, a record's name, code with its spans.
@@ -60,7 +60,7 @@ shapes =
 
 -- 32 is a chunk row, 33 a field row
 unfoldable pub shape : ℕ → Shape
-shape t = if eqb t 32 then with_kids (ItemKind.code ∷ []) values else if eqb t 33 then with_kids (ItemKind.string ∷ []) one_value else get_or shapes t (with_kids [] no_value)
+shape t = when eqb t 32 then with_kids (ItemKind.code ∷ []) values else when eqb t 33 then with_kids (ItemKind.string ∷ []) one_value else get_or shapes t (with_kids [] no_value)
 
 -- how deep values stand in values: an outer constant has depth 1
 abbrev pub depth_limit : ℕ

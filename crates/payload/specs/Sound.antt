@@ -2,7 +2,7 @@
 use Rattle.std.specs.Prelude.{Bool, false, true, List, [], ◌∷◌, ◌*◌, ◌+◌, ◌^◌, ℕ, eqb, leb, ltb, drop, length, take}
 use Rattle.std.proofs.Math.Option.{Option, none, some}
 use Rattle.utf8.specs.Utf8.{is_utf8}
-use Rattle.payload.specs.Choice.{◌and◌, if◌then◌else◌}
+use Rattle.payload.specs.Choice.{◌and◌, when◌then◌else◌}
 use Rattle.payload.specs.Reader.{Part, Reader, Result, ◌>>=◌, ◌>>◌, pure, start}
 use Rattle.payload.specs.Scan.{row_must, scan_outer}
 use Rattle.payload.specs.Spans.{Span, small_spans}
@@ -68,12 +68,12 @@ part_at store o n = record { offset = o; bytes = take n (drop o store) }
 
 unfoldable pub line_sound : Tables → Bool
 line_sound T =
-    if eqb T.flag 0
+    when eqb T.flag 0
     then eqb T.name_offset 0 and eqb T.name_length 0 and is_nil T.starts
     else eqb T.flag 1 and leb (T.name_offset + T.name_length) (length T.store) and is_utf8 (part_at T.store T.name_offset T.name_length).bytes and all_starts T.starts
 
 unfoldable pub line_of : Tables → Option (LineIndex Part)
-line_of T = if eqb T.flag 0 then none else some (record { name = part_at T.store T.name_offset T.name_length; starts = T.starts })
+line_of T = when eqb T.flag 0 then none else some (record { name = part_at T.store T.name_offset T.name_length; starts = T.starts })
 
 ---- the script
 

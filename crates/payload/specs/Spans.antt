@@ -3,9 +3,9 @@ use Rattle.std.specs.Prelude.{Bool, true, List, [], ◌++◌, ◌∷◌, ◌+◌
 use Rattle.signed.specs.Position.{in_range}
 use Rattle.signed.specs.Signed.{unzigzag_of, word_of, zigzag_of}
 use Rattle.varint.specs.Uleb128.{uleb128}
-use Rattle.payload.specs.Choice.{◌and◌, if◌then◌else◌}
+use Rattle.payload.specs.Choice.{◌and◌, when◌then◌else◌}
 use Rattle.payload.specs.Numbers.{varint}
-use Rattle.payload.specs.Reader.{Part, Reader, ◌>>=◌, ◌>>◌, body, here, must, new_spans, pure, start}
+use Rattle.payload.specs.Reader.{Part, Reader, ◌>>=◌, ◌>>◌, body, here, must, new_spans, pure}
 
 pub record Span : Type 0 where
   pub start : ℕ
@@ -23,7 +23,7 @@ same_span a b = eqb a.start b.start and eqb a.end b.end
 -- one more span in front: it joins the first run if it is the same
 unfoldable pub join : Span → List Run → List Run
 join s [] = record { span = s; count = 1 } ∷ []
-join s (r ∷ rs) = if same_span s r.span then record { span = s; count = suc r.count } ∷ rs else record { span = s; count = 1 } ∷ r ∷ rs
+join s (r ∷ rs) = when same_span s r.span then record { span = s; count = suc r.count } ∷ rs else record { span = s; count = 1 } ∷ r ∷ rs
 
 unfoldable pub runs_of : List Span → List Run
 runs_of [] = []

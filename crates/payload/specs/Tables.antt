@@ -3,7 +3,7 @@ use Rattle.std.specs.Prelude.{List, [], ◌++◌, ◌∷◌, ◌≡◌, ◌/◌,
 use Rattle.std.proofs.Math.Option.{Option, none, some}
 use Rattle.slices.specs.Zeros.{pad_to}
 use Rattle.payload.specs.Answers.{read_fields}
-use Rattle.payload.specs.Choice.{if◌then◌else◌}
+use Rattle.payload.specs.Choice.{when◌then◌else◌}
 use Rattle.payload.specs.Names.{is_listed}
 use Rattle.payload.specs.Reader.{Part, Result, State, ok, refused, start}
 use Rattle.payload.specs.Reading.{Payload, read_payload}
@@ -73,7 +73,7 @@ capacities_of rows spans starts pool = record {
 
 -- the size limit is tested first
 unfoldable pub reading : Capacities → List ℕ → List ℕ → Result Payload
-reading c names p = if ltb size_limit (length p) then refused 16 0 else read_payload c (is_listed names) (start p)
+reading c names p = when ltb size_limit (length p) then refused 16 0 else read_payload c (is_listed names) (start p)
 
 -- bytes consumed, used rows, spans, starts and strings, the line flag and the name's offset and length: 0 without a line index
 abbrev pub counts_of : Payload → State → Counts

@@ -3,7 +3,7 @@ use Rattle.std.specs.Prelude.{Bool, false, true, List, [], ◌++◌, ◌∷◌, 
 use Rattle.slices.specs.Same.{same}
 use Rattle.slices.specs.Zeros.{pad_to}
 use Rattle.payload.specs.Answers.{written_fields}
-use Rattle.payload.specs.Choice.{◌and◌, ◌or◌, if◌then◌else◌}
+use Rattle.payload.specs.Choice.{◌and◌, ◌or◌, when◌then◌else◌}
 use Rattle.payload.specs.Pool.{is_in}
 use Rattle.payload.specs.Reader.{Part, Result, ok, refused}
 use Rattle.payload.specs.declared.Capacities.{Capacities}
@@ -51,7 +51,7 @@ named_rows l nil = 0
 named_rows l (node t is ks ts) =
     let under = named_rows l ks in
     let next = named_rows l ts in
-    if items_named l is then (if eqb under (size ks) then suc (size ks) + next else suc under) else 0
+    when items_named l is then (when eqb under (size ks) then suc (size ks) + next else suc under) else 0
 
 ---- the answer
 
@@ -62,7 +62,7 @@ has_bytes b (l ∷ ls) = same b l.bytes or has_bytes b ls
 
 unfoldable pub interned_parts : List Part → List Part → List Part
 interned_parts l [] = l
-interned_parts l (x ∷ xs) = interned_parts (if has_bytes x.bytes l then l else l ++ (x ∷ [])) xs
+interned_parts l (x ∷ xs) = interned_parts (when has_bytes x.bytes l then l else l ++ (x ∷ [])) xs
 
 -- what is written, or the refusal: 16 (store), 17, 21, 18, 16 (the writing), 25, in this order
 pub data Writing : Type 0 where
@@ -75,10 +75,10 @@ write_script strings room u =
     let pool = interned_parts [] (gathered u) in
     let named = named_rows (pool_of bytes) (single bytes.outer) in
     let out = writing bytes in
-    if ltb strings (length pool) then not_written 21 0
-    else if ltb named (size (single bytes.outer)) then not_written 18 named
-    else if ltb size_limit (length out) then not_written 16 0
-    else if ltb room (length out) then not_written 25 (length out)
+    when ltb strings (length pool) then not_written 21 0
+    else when ltb named (size (single bytes.outer)) then not_written 18 named
+    else when ltb size_limit (length out) then not_written 16 0
+    else when ltb room (length out) then not_written 25 (length out)
     else written out pool
 
 unfoldable pub after_sound : ℕ → ℕ → Result (Script Part) → Writing
@@ -87,8 +87,8 @@ after_sound strings room (refused n p) = not_written n p
 
 unfoldable pub write_tables : Capacities → ℕ → Program → Tables → Writing
 write_tables c room g T =
-    if ltb size_limit (length T.store) then not_written 16 0
-    else if counts_fit c g then after_sound c.strings room (script_of T)
+    when ltb size_limit (length T.store) then not_written 16 0
+    else when counts_fit c g then after_sound c.strings room (script_of T)
     else not_written 17 g.rows
 
 unfoldable pub write_answer : Writing → Written

@@ -2,7 +2,7 @@
 use Rattle.std.specs.Prelude.{List, [], ◌++◌, ◌∷◌, ◌/◌, ℕ, leb, length}
 use Rattle.std.proofs.Math.Option.{Option, none, some}
 use Rattle.varint.specs.Uleb128.{uleb128}
-use Rattle.payload.specs.Choice.{if◌then◌else◌}
+use Rattle.payload.specs.Choice.{when◌then◌else◌}
 use Rattle.payload.specs.Numbers.{write_number}
 use Rattle.payload.specs.Pool.{index_of, interned}
 use Rattle.payload.specs.Shapes.{Kids, Shape, keys, no_value, one_value, pairs, shape, values, with_chunk, with_fields, with_kids, with_template}
@@ -41,7 +41,7 @@ write_row is (with_template kinds) (e ∷ es) = e ++ (is ++ (uleb128 (length es)
 
 -- chunk and field rows have no tag byte
 unfoldable pub tag_byte : ℕ → List ℕ
-tag_byte t = if leb t 26 then t ∷ [] else []
+tag_byte t = when leb t 26 then t ∷ [] else []
 
 -- the bytes of each tree
 unfoldable pub write_trees : List (List ℕ) → Trees (List ℕ) → List (List ℕ)

@@ -1,4 +1,6 @@
 // Tests of a pool that was read: whether its strings are first used in its order, and whether they differ.
+#![tactic(auto)]
+
 ghost use Rattle.std.specs.Prelude.{◌≡◌, ◌++◌, ◌+◌, ◌/◌, ◌≤◌, length, get_or, drop};
 ghost use Rattle.payload.specs.Rows.{row_width};
 ghost use Rattle.pool_index.specs.Strings.{pool_strings, distinct};

@@ -1,4 +1,6 @@
 // Code and its spans, read from a payload against the definition; the spans go into a lent table.
+#![tactic(auto)]
+
 ghost use Rattle.std.specs.Prelude.{true, [], ◌∷◌, ◌≡◌, ◌+◌, ◌*◌, ◌≤◌, min, length, replicate};
 ghost use Rattle.slices.specs.Put.{put};
 ghost use Rattle.payload.specs.Tables.{span_words};

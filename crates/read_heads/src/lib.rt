@@ -1,4 +1,6 @@
 // The head of a row, by its class: its items, and the count of what follows them.
+#![tactic(auto)]
+
 ghost use Rattle.std.specs.Prelude.{◌≡◌, List, ℕ, ◌≤◌, length};
 ghost use Rattle.payload.specs.Shapes.{shape};
 ghost use Rattle.read_items.specs.Context.{PoolFits};

@@ -1,5 +1,5 @@
 -- What a function that reads at a place of the payload has to do with a reader of the definition.
-use Rattle.std.specs.Prelude.{List, ◌≡◌, ℕ, ◌≤◌, drop, length}
+use Rattle.std.specs.Prelude.{List, ◌≡◌, ℕ, ◌≤◌, length}
 use Rattle.payload.specs.Moved.{start_at}
 use Rattle.payload.specs.Reader.{State, Result, Reader, ok, refused, set_rows, set_spans}
 use Rattle.read_items.specs.declared.Number.{Number}

@@ -1,4 +1,6 @@
 // The line index of a payload, read against the definition; its starts go into a lent table.
+#![tactic(auto)]
+
 ghost use Rattle.std.specs.Prelude.{◌≤◌, length};
 ghost use Rattle.payload.specs.Reading.{read_flagged, read_line_index};
 ghost use Rattle.read_items.specs.Context.{PoolFits};

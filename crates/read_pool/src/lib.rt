@@ -1,4 +1,6 @@
 // The pool of a payload, read against the definition; the offset and length of each string go into a lent table.
+#![tactic(auto)]
+
 ghost use Rattle.std.specs.Prelude.{◌*◌, ◌≤◌, length};
 ghost use Rattle.payload.specs.Reading.{read_string};
 ghost use Rattle.read_items.specs.Reads.{Reads};

@@ -8,8 +8,8 @@ use lib.Dec.{eqb, leb, ltb}
 use lib.ListN.{drop, get_or, length, take, length-take, length-drop}
 use borrow.Author.Tests.{eq-eqb, ne_eqb, eqb-true, leb-true, not-true, eqb-false, ltb-true, lt-ltb}
 use Rattle.payload.specs.Choice.{◌and◌}
-use Rattle.payload.specs.Laws.Keeps.{invert, not_ok}
-use Rattle.payload.specs.Laws.ScanWritten.{InStore}
+use Rattle.payload.proofs.Laws.Keeps.{invert, not_ok}
+use Rattle.payload.proofs.Laws.ScanWritten.{InStore}
 use Rattle.payload.specs.Laws.Pool.{false≢true}
 use Rattle.payload.specs.Numbers.{cut_to, read_number, varint}
 use Rattle.payload.specs.Reader.{Part, Reader, ◌>>=◌, ◌>>◌, and_then, byte, here, must, new_row, ok, pure}

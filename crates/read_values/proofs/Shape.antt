@@ -8,7 +8,7 @@ use native.Mathlib.Omega.{arith}
 use lib.ListN.{length, get_or, drop_of_length-le}
 use lib.Seq.{drop-cons}
 use borrow.Author.Tests.{le-leb, lt-ltb, le-ltb, lt-leb, eq-eqb, ne_eqb}
-use Rattle.payload.specs.Laws.Keeps.{invert}
+use Rattle.payload.proofs.Laws.Keeps.{invert}
 use Rattle.payload.specs.Laws.Pool.{false≢true}
 use Rattle.payload.specs.Numbers.{varint}
 use Rattle.payload.specs.Reader.{Part, Reader, Result, ◌>>=◌, ◌>>◌, and_then, byte, first_byte, here, must, new_row, ok, pure, refused}
@@ -17,7 +17,7 @@ use Rattle.payload.specs.Reading.{Context, node_key, read_items, read_keys, read
 use Rattle.payload.specs.Rows.{root_count}
 use Rattle.payload.specs.Shapes.{ItemKind, Kids, Shape, keys, no_value, one_value, pairs, shape, shapes, values, with_chunk, with_fields, with_kids, with_template, kinds_of}
 use Rattle.payload.specs.Trees.{Item, Node, Trees, cons, nil, node_of}
-use Rattle.payload.specs.Choice.{if◌then◌else◌}
+use Rattle.payload.specs.Choice.{when◌then◌else◌}
 use Rattle.row_layout.specs.Under.{count_in, rows_under}
 use Rattle.read_heads.specs.Heads.{Heading, heading, read_count, read_head, read_kids_count}
 use Rattle.read_items.specs.Reads.{state_at}
@@ -210,19 +210,19 @@ module _ (e : Context) (rv : Reader (Node Part)) where
 
   module _ (t n : ℕ) where
     pub under_function : t ≡ 7 → read_under e rv (shape t) n ≡ read_many n (chunk_row e rv)
-    unfolding read_under shape shapes if◌then◌else◌
+    unfolding read_under shape shapes when◌then◌else◌
     under_function h = rw h
 
     pub under_keys : t ≡ 14 → (s : reader.State) → read_under e rv (shape t) n s ≡ read_entries 0 n [] rv s
-    unfolding read_under shape shapes if◌then◌else◌
+    unfolding read_under shape shapes when◌then◌else◌
     under_keys h s = rw h (keys_are rv n [] s)
 
     pub under_pairs : t ≡ 15 → (s : reader.State) → read_under e rv (shape t) n s ≡ read_entries 1 n [] rv s
-    unfolding read_under shape shapes if◌then◌else◌
+    unfolding read_under shape shapes when◌then◌else◌
     under_pairs h s = rw h (pairs_are rv n [] s)
 
     pub under_record : t ≡ 16 → read_under e rv (shape t) n ≡ read_many n (field_row e rv)
-    unfolding read_under shape shapes if◌then◌else◌
+    unfolding read_under shape shapes when◌then◌else◌
     under_record h = rw h
 
   ---- a chunk or field row: room for it, then its shape
@@ -241,7 +241,7 @@ module _ (e : Context) (rv : Reader (Node Part)) where
 
 -- one chunk row follows a function
 pub function_count : (t n : ℕ) (ws : List ℕ) → count_in (shape t) ws ≡ n → t ≡ 7 → n ≡ 1
-unfolding shape shapes if◌then◌else◌ count_in
+unfolding shape shapes when◌then◌else◌ count_in
 function_count t n ws e h = sym (rw h at e)
 
 ---- the first tests of a value

@@ -7,7 +7,7 @@ use native.Mathlib.Omega.{arith}
 use lib.ListN.{length, get_or, take, drop, length-append, length-take, length-drop}
 use Rattle.slices.specs.Put.{put}
 use Rattle.slices.specs.Laws.Put.{put_none, put_under, get_or_put_first}
-use Rattle.payload.specs.Choice.{if◌then◌else◌}
+use Rattle.payload.specs.Choice.{when◌then◌else◌}
 use Rattle.payload.specs.Numbers.{varint}
 use Rattle.payload.specs.Reader.{Part, Reader, Result, ◌>>=◌, and_then, ok, pure, refused}
 use Rattle.payload.specs.Reader as reader
@@ -36,7 +36,7 @@ use Rattle.read_values.specs.declared.Step.{Step}
 use Rattle.read_values.specs.declared.Step.TheVariants.{Done, Refused}
 use Rattle.read_values.proofs.Tags.{no_template}
 use Rattle.read_values.specs.Under.{read_under}
-use Rattle.read_values.proofs.Shape.{filled, many_count, shape_head, under_count, under_none}
+use Rattle.read_values.proofs.Shape.{many_count, shape_head, under_count, under_none}
 use Rattle.read_values.proofs.Loop.{did_none}
 
 ---- the variant that a match found
@@ -176,7 +176,7 @@ unfolding items_spans
 chunk_spans p o n ss = ap span_words (sym (append-nil ss))
 
 shape_chunk : shape 32 ≡ with_kids (ItemKind.code ∷ []) values
-unfolding shape if◌then◌else◌
+unfolding shape when◌then◌else◌
 shape_chunk = refl
 
 chunk_words :

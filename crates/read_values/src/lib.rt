@@ -1,4 +1,6 @@
 // Values and chunks of a payload, read into lent tables.
+#![tactic(auto)]
+
 mod rows;
 mod states;
 mod values;

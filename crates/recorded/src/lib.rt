@@ -1,4 +1,6 @@
 // Fields and tables of recorded files: numbers read from their bytes, put into tables, and compared with what the tables held.
+#![tactic(auto)]
+
 ghost use Rattle.std.specs.Prelude.{◌≡◌, ◌^◌, ◌≤◌, ◌<◌, length, take, drop};
 ghost use Rattle.recorded.specs.Recorded.{number_at, numbers, agrees};
 

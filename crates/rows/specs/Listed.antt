@@ -1,6 +1,6 @@
 -- The text that the program prints for its input.
 use Rattle.std.specs.Prelude.{List, [], ℕ, ◌*◌, ltb, length}
-use Rattle.payload.specs.Choice.{if◌then◌else◌}
+use Rattle.payload.specs.Choice.{when◌then◌else◌}
 use Rattle.payload.specs.Reader.{Result}
 use Rattle.payload.specs.Reading.{Payload}
 use Rattle.payload.specs.Rows.{row_width}
@@ -17,4 +17,4 @@ abbrev pub listed_limit : ℕ
 listed_limit = 4096
 
 unfoldable pub listed : List ℕ → List ℕ
-listed bytes = if ltb listed_limit (length bytes) then listing (Refused 16 0) [] else listing (read_answer (table_reading bytes)) (used_rows (table_reading bytes))
+listed bytes = when ltb listed_limit (length bytes) then listing (Refused 16 0) [] else listing (read_answer (table_reading bytes)) (used_rows (table_reading bytes))

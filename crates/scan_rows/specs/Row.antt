@@ -1,5 +1,5 @@
 -- A row of the table by its words: where the scan stands, the tests that the words must pass, the items that they are.
-use Rattle.std.specs.Prelude.{Bool, true, List, [], ◌∷◌, ◌*◌, ◌+◌, ◌-◌, ◌/◌, suc, zero, ℕ, eqb, leb, ltb, drop, get_or, length}
+use Rattle.std.specs.Prelude.{Bool, true, List, [], ◌∷◌, ◌*◌, ◌+◌, ◌-◌, ◌/◌, suc, zero, ℕ, eqb, leb, ltb, get_or, length}
 use Rattle.payload.specs.Choice.{◌and◌}
 use Rattle.payload.specs.Numbers.{fits_kind}
 use Rattle.payload.specs.Moved.{start_at}

@@ -1,4 +1,6 @@
 // The scan of a program in tables for soundness: the first row that breaks a rule.
+#![tactic(auto)]
+
 ghost use Rattle.std.specs.Prelude.{◌≡◌, ℕ, ◌+◌, ◌-◌, ◌*◌, ◌/◌, ◌^◌, ◌≤◌, ◌<◌, List, [], true, not, leb, eqb, length};
 ghost use Rattle.scan_rows.specs.Row.{row_count, word_at, tag_at, count_at, at_row, zeros_from, row_fits, is_tagged, head_fits, key_fits, row_key};
 ghost use Rattle.scan_rows.specs.Under.{rows_under, Skip, Entries, scan_under, scan_entries, scan_chunk_or_field, scan_field, scan_template};

@@ -1,6 +1,6 @@
 -- Spans in a table of words, and what the code asks of them.
 use Rattle.std.specs.Prelude.{◌≡◌, ℕ, suc, ◌+◌, ◌*◌, ◌/◌, ◌^◌, ◌<◌, ◌≤◌, Bool, List, [], ◌∷◌, length, drop, slice_index}
-use Rattle.payload.specs.Choice.{if◌then◌else◌}
+use Rattle.payload.specs.Choice.{when◌then◌else◌}
 use Rattle.payload.specs.Sound.{spans_of}
 use Rattle.payload.specs.Spans.{Span, same_span}
 
@@ -18,12 +18,12 @@ span_at ws k = span (slice_index ws (2 * k)) (slice_index ws (2 * k + 1))
 -- how many are true before the first that is false
 unfoldable pub leading_trues : List Bool → ℕ
 leading_trues [] = 0
-leading_trues (t ∷ l) = if t then suc (leading_trues l) else 0
+leading_trues (t ∷ l) = when t then suc (leading_trues l) else 0
 
 -- how many of these are s before the first that is not
 unfoldable pub repeated : Span → List Span → ℕ
 repeated s [] = 0
-repeated s (t ∷ l) = if same_span s t then suc (repeated s l) else 0
+repeated s (t ∷ l) = when same_span s t then suc (repeated s l) else 0
 
 -- the span after a run of s that begins with span k
 unfoldable pub run_end : List ℕ → Span → ℕ → ℕ

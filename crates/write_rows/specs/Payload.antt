@@ -1,7 +1,7 @@
 -- The payload of the tables of a program: pool, rows, line index.
 use Rattle.std.specs.Prelude.{List, [], ◌∷◌, ◌++◌, ◌≡◌, ℕ, ◌+◌, ◌*◌, eqb, length, drop}
 use Rattle.varint.specs.Uleb128.{uleb128}
-use Rattle.payload.specs.Choice.{if◌then◌else◌}
+use Rattle.payload.specs.Choice.{when◌then◌else◌}
 use Rattle.payload.specs.Pool.{index_of}
 use Rattle.payload.specs.Shapes.{depth_limit}
 use Rattle.payload.specs.Writing.{write_starts}
@@ -10,7 +10,7 @@ use Rattle.write_rows.specs.Walk.{Held, walk}
 
 -- the line index: flag, and where that is not 0, name, count, starts
 unfoldable pub line_bytes : List (List ℕ) → ℕ → List ℕ → List ℕ → List ℕ
-line_bytes pool flag name starts = if eqb flag 0 then 0 ∷ [] else 1 ∷ (uleb128 (index_of name pool) ++ (uleb128 (length starts) ++ write_starts 0 starts))
+line_bytes pool flag name starts = when eqb flag 0 then 0 ∷ [] else 1 ∷ (uleb128 (index_of name pool) ++ (uleb128 (length starts) ++ write_starts 0 starts))
 
 -- as many levels as values stand in values, a row or two each, and the outer chunk
 abbrev pub walk_depth : ℕ

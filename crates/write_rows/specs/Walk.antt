@@ -3,7 +3,7 @@
 use Rattle.std.specs.Prelude.{List, [], ◌∷◌, ◌++◌, ℕ, zero, suc, ◌+◌, ◌-◌, ◌*◌, ◌/◌, ◌%◌, min, leb, ltb, eqb, length, get_or, take, drop}
 use Rattle.slices.specs.LittleEndian.{to_le_bytes}
 use Rattle.varint.specs.Uleb128.{uleb128}
-use Rattle.payload.specs.Choice.{if◌then◌else◌}
+use Rattle.payload.specs.Choice.{when◌then◌else◌}
 use Rattle.payload.specs.Numbers.{zigzag_word}
 use Rattle.payload.specs.Pool.{index_of}
 use Rattle.payload.specs.Rows.{row_width}
@@ -28,18 +28,18 @@ row_count rows = length rows / row_width
 
 -- word k of row i
 unfoldable pub row_word : List ℕ → ℕ → ℕ → ℕ
-row_word rows i k = if ltb k row_width then get_or rows (row_width * i + k) 0 else 0
+row_word rows i k = when ltb k row_width then get_or rows (row_width * i + k) 0 else 0
 
 -- an item by its form
 unfoldable pub item_bytes : List ℕ → List (List ℕ) → List Span → ℕ → ℕ → ℕ → List ℕ
 item_bytes store pool spans form a b =
-    if eqb form 1 then uleb128 a
-    else if eqb form 2 then uleb128 (zigzag_word a)
-    else if eqb form 3 then a % 256 ∷ []
-    else if eqb form 4 then to_le_bytes 8 a
-    else if eqb form 5 then to_le_bytes 4 a
-    else if eqb form 6 then uleb128 (index_of (bytes_at store a b) pool)
-    else if eqb form 7 then write_code (bytes_at store a b) spans
+    when eqb form 1 then uleb128 a
+    else when eqb form 2 then uleb128 (zigzag_word a)
+    else when eqb form 3 then a % 256 ∷ []
+    else when eqb form 4 then to_le_bytes 8 a
+    else when eqb form 5 then to_le_bytes 4 a
+    else when eqb form 6 then uleb128 (index_of (bytes_at store a b) pool)
+    else when eqb form 7 then write_code (bytes_at store a b) spans
     else []
 
 abbrev pub tag_at : Held → ℕ → ℕ
@@ -50,7 +50,7 @@ count_at H i = row_word H.rows i (count_word (tag_at H i))
 
 -- how many bytes of code a row has
 unfoldable pub code_length : Held → ℕ → ℕ
-code_length H i = if eqb (first_form (tag_at H i)) 7 then length (bytes_at H.store (row_word H.rows i 1) (row_word H.rows i 2)) else 0
+code_length H i = when eqb (first_form (tag_at H i)) 7 then length (bytes_at H.store (row_word H.rows i 1) (row_word H.rows i 2)) else 0
 
 -- the span after those of a row
 unfoldable pub span_after : Held → ℕ → ℕ → ℕ
@@ -64,18 +64,18 @@ unfoldable pub items_bytes : Held → ℕ → List Span → List ℕ
 items_bytes H i spans =
     (item_bytes H.store H.pool spans (first_form (tag_at H i)) (row_word H.rows i 1) (row_word H.rows i 2)
     ++ item_bytes H.store H.pool spans (second_form (tag_at H i)) (row_word H.rows i (second_word (tag_at H i))) (row_word H.rows i (second_word (tag_at H i) + 1)))
-    ++ (if leb 2 (under_form (tag_at H i)) then uleb128 (count_at H i) else [])
+    ++ (when leb 2 (under_form (tag_at H i)) then uleb128 (count_at H i) else [])
 
 -- before the rows under it
 unfoldable pub head_bytes : Held → ℕ → List Span → List ℕ
-head_bytes H i spans = tag_byte (tag_at H i) ++ (if eqb (under_form (tag_at H i)) 4 then [] else items_bytes H i spans)
+head_bytes H i spans = tag_byte (tag_at H i) ++ (when eqb (under_form (tag_at H i)) 4 then [] else items_bytes H i spans)
 
 -- how many rows are under it; of a closure, after the first
 unfoldable pub rows_under : Held → ℕ → ℕ
 rows_under H i =
-    if eqb (under_form (tag_at H i)) 0 then 0
-    else if eqb (under_form (tag_at H i)) 1 then 1
-    else if eqb (under_form (tag_at H i)) 3 then 2 * min (count_at H i) (row_count H.rows)
+    when eqb (under_form (tag_at H i)) 0 then 0
+    else when eqb (under_form (tag_at H i)) 1 then 1
+    else when eqb (under_form (tag_at H i)) 3 then 2 * min (count_at H i) (row_count H.rows)
     else min (count_at H i) (row_count H.rows)
 
 -- bytes, and the row and the span after them
@@ -98,13 +98,13 @@ walk_times f (suc n) i j = and_walk (f i j) (walk_times f n)
 -- a row and those under it, of which f gives so many
 unfoldable pub walk_row : Held → (ℕ → ℕ → ℕ → Walked) → ℕ → ℕ → Walked
 walk_row H f i j = and_walk (walked (head_bytes H i (row_spans H i j)) (i + 1) (span_after H i j))
-    (if eqb (under_form (tag_at H i)) 4
+    (when eqb (under_form (tag_at H i)) 4
     then (λ i' j'. and_walk (f 1 i' j') (λ i'' j''. and_walk (walked (items_bytes H i []) i'' j'') (f (rows_under H i))))
     else f (rows_under H i))
 
 -- nothing past the last row
 unfoldable pub walk_next : Held → (ℕ → ℕ → ℕ → Walked) → ℕ → ℕ → Walked
-walk_next H f i j = if ltb i (row_count H.rows) then walk_row H f i j else walked [] i j
+walk_next H f i j = when ltb i (row_count H.rows) then walk_row H f i j else walked [] i j
 
 -- n rows with those under them, d levels deep
 unfoldable pub walk : Held → ℕ → ℕ → ℕ → ℕ → Walked

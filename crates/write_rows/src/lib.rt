@@ -1,4 +1,6 @@
 // The payload of a program in tables, written, measured or compared by one walk over its rows. The row table is lent to its last used row.
+#![tactic(auto)]
+
 ghost use Rattle.std.specs.Prelude.{◌≡◌, true, [], ◌∷◌, ◌++◌, ◌+◌, ◌*◌, ◌/◌, ◌^◌, ◌≤◌, ◌<◌, length, drop};
 ghost use Rattle.slices.specs.Same.{same};
 ghost use Rattle.varint.specs.Uleb128.{uleb128};

@@ -1,12 +1,11 @@
 -- `put_fields` meets its contract: at each turn the first i fields are stored.
-use mathlib.Core.Path.{◌≡◌, refl, sym, ap, ◌∙◌}
+use mathlib.Core.Path.{refl, sym, ap, ◌∙◌}
 use mathlib.Core.List.{List}
-use Prim.Native.Nat.{ℕ, ◌-◌, ◌≤◌}
+use Prim.Native.Nat.{ℕ}
 use native.Mathlib.Nat.{zero-add}
 use native.Mathlib.Omega.{arith}
-use lib.ListN.{length, get_or, take, set, length-set}
+use lib.ListN.{get_or, set, length-set}
 use lib.Seq.{take_all}
-use borrow.Author.Rules.{rules}
 use Rattle.slices.specs.Put.{put}
 use Rattle.slices.specs.Laws.Put.{put_none}
 use Rattle.slices.proofs.Loops.{copy_more}

@@ -1,6 +1,5 @@
 -- `body_at` meets its contract: the three ways its tests go.
 use borrow.Author.Tests.{le-leb, lt-leb}
-use borrow.Author.Rules.{rules}
 use Rattle.cursor.specs.Body.{body_of}
 use Rattle.cursor.proofs.body_at.Goals as goal
 

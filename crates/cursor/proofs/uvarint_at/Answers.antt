@@ -1,5 +1,4 @@
 -- `uvarint_at` meets its contract, which is that of `varint::uvarint`.
-use borrow.Author.Rules.{rules}
 use Rattle.cursor.proofs.uvarint_at.Goals as goal
 
 pub returns : goal.returns

@@ -1,7 +1,6 @@
 -- `emit::advance` meets its contract: the sum is tested before it is made.
 use Prim.Native.Nat.{◌+◌}
 use native.Mathlib.Omega.{arith}
-use borrow.Author.Rules.{rules}
 use borrow.Author.Tests.{le-leb, lt-leb}
 use Rattle.payload.specs.Tables.{size_limit}
 use Rattle.emit.specs.Emit.{further}

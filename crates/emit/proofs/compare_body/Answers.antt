@@ -1,7 +1,6 @@
 -- `emit::compare_body` meets its contract: a body agrees where the payload's bytes from there on are its own.
 use mathlib.Core.Path.{sym, ◌∙◌}
 use native.Mathlib.Omega.{arith}
-use borrow.Author.Rules.{rules}
 use Rattle.emit.specs.Laws.Bytes.{like_far, like_long, like_none, like_yes, like_no, further_in}
 use Rattle.emit.proofs.compare_body.Goals as goal
 

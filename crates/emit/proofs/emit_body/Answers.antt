@@ -1,6 +1,5 @@
 -- `emit::emit_body` meets its contract: compared, measured, or stored.
 use mathlib.Core.Path.{sym}
-use borrow.Author.Rules.{rules}
 use Rattle.emit.specs.Laws.Bytes.{emitted_like, emitted_over}
 use Rattle.emit.specs.Laws.Emit.{put_out}
 use Rattle.emit.proofs.emit_body.Goals as goal

@@ -1,5 +1,4 @@
 -- `emit::emit_byte` meets its contract: each way through the code is one law of a single byte.
-use borrow.Author.Rules.{rules}
 use Rattle.emit.specs.Laws.Bytes.{far_byte, end_byte, same_byte, other_byte, in_byte, past_byte}
 use Rattle.emit.proofs.emit_byte.Goals as goal
 

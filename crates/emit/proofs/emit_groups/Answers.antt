@@ -1,12 +1,8 @@
 -- `emit::emit_groups` meets its contract: what is left to write is the ULEB128 of what is left of the number.
 use mathlib.Core.Path.{◌∙◌}
-use Prim.Native.Nat.{◌≤◌}
 use native.Mathlib.Omega.{arith}
-use borrow.Author.Rules.{rules}
 use Rattle.varint.specs.Laws.Uleb128.{uleb_small, uleb_large}
-use Rattle.varint.specs.Uleb128.{uleb128}
-use Rattle.emit.specs.Emit.{output, emit}
-use Rattle.emit.specs.Laws.Emit.{Emitting, emitting_start, emitting_ready, emitting_next, emitting_last, emitted_long}
+use Rattle.emit.specs.Laws.Emit.{emitting_start, emitting_ready, emitting_next, emitting_last, emitted_long}
 use Rattle.emit.proofs.emit_groups.Goals as goal
 
 pub loop-rest-init : goal.loop-rest-init

@@ -1,12 +1,7 @@
-use mathlib.Core.Path.{◌≡◌, sym, ap, ◌∙◌}
 use Prim.Native.Nat.{◌-◌}
-use native.Mathlib.Omega.{arith}
-use borrow.Author.Rules.{rules}
-use Rattle.slices.specs.Laws.LittleEndian.{length_to_le_bytes}
 use Rattle.slices.specs.LittleEndian.{to_le_bytes}
-use Rattle.emit.specs.Emit.{output, emit, further}
-use Rattle.emit.specs.Laws.Bytes.{emitted_past, le_some, le_none}
-use Rattle.emit.specs.Laws.Emit.{Emitting, emitting_start, emitting_ready, emitting_next, emitting_end}
+use Rattle.emit.specs.Emit.{output, emit}
+use Rattle.emit.specs.Laws.Emit.{Emitting}
 use Rattle.emit.proofs.emit_le.Given as goal
 
 abbrev pub invariant-loop-k : goal.invariant-loop-k

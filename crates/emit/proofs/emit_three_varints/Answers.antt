@@ -1,5 +1,4 @@
 -- `emit::emit_three_varints` meets its contract: a number below 128 is its own ULEB128; others are written one after another.
-use borrow.Author.Rules.{rules}
 use Rattle.varint.specs.Laws.Uleb128.{uleb_small}
 use Rattle.emit.specs.Laws.Emit.{emitted_then}
 use Rattle.emit.proofs.emit_three_varints.Goals as goal

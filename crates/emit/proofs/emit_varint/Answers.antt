@@ -1,7 +1,6 @@
 -- `emit::emit_varint` meets its contract: a number of one group is a byte; past the output only the length counts, and where ten bytes fit every ULEB128 does.
 use mathlib.Core.Path.{sym, ap, ◌∙◌}
 use native.Mathlib.Omega.{arith}
-use borrow.Author.Rules.{rules}
 use borrow.Author.Tests.{not-true}
 use Rattle.varint.specs.Laws.Uleb128.{uleb_small, uleb_at_most}
 use Rattle.emit.specs.Emit.{further}

@@ -1,5 +1,4 @@
 -- `emit::store_body` meets its contract: only what lies in the output is stored.
-use borrow.Author.Rules.{rules}
 use Rattle.emit.specs.Laws.Emit.{put_store}
 use Rattle.emit.proofs.store_body.Goals as goal
 

@@ -5,7 +5,7 @@ use Rattle.slices.specs.Laws.LittleEndian.{Bytes}
 use Rattle.payload.specs.Answers.{read_number}
 use Rattle.payload.specs.Demand3.{HouseProgram}
 use Rattle.payload.specs.House.{house}
-use Rattle.payload.specs.Laws.Contracts.{house_number}
+use Rattle.payload.proofs.Laws.Contracts.{house_number}
 use Rattle.payload.specs.Laws.Rules.{Small}
 use Rattle.payload.specs.Sound.{Tables}
 use Rattle.payload.specs.Tables.{read_answer}

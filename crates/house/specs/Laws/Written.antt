@@ -10,17 +10,17 @@ use Rattle.std.proofs.Math.Seq.{drop-length}
 use Rattle.slices.specs.Laws.LittleEndian.{Bytes}
 use Rattle.slices.specs.Laws.Same.{same_refl}
 use Rattle.slices.specs.Zeros.{pad_to}
-use Rattle.payload.specs.Choice.{◌and◌, if◌then◌else◌}
+use Rattle.payload.specs.Choice.{◌and◌, when◌then◌else◌}
 use Rattle.payload.specs.House.{checked, house, house_written, is_ok}
-use Rattle.payload.specs.Laws.Demand3.{small_capacities}
-use Rattle.payload.specs.Laws.Equal.{single_bytes}
-use Rattle.payload.specs.Laws.Given.{small_span_table}
-use Rattle.payload.specs.Laws.House.{IsWriting, house_reads, is_named, is_ok_lem, read_back, read_holds, read_strings_lem, reading_ok, small_trees}
-use Rattle.payload.specs.Laws.Kept.{TextsIn}
+use Rattle.payload.proofs.Laws.Demand3.{small_capacities}
+use Rattle.payload.proofs.Laws.Equal.{single_bytes}
+use Rattle.payload.proofs.Laws.Given.{small_span_table}
+use Rattle.payload.proofs.Laws.House.{IsWriting, house_reads, is_named, is_ok_lem, read_back, read_holds, read_strings_lem, reading_ok, small_trees}
+use Rattle.payload.proofs.Laws.Kept.{TextsIn}
 use Rattle.payload.specs.Laws.Pool.{and_both, false≢true}
-use Rattle.payload.specs.Laws.ReadSound.{ReadIs, read_is, rows_counted, spans_counted}
+use Rattle.payload.proofs.Laws.ReadSound.{ReadIs, read_is, rows_counted, spans_counted}
 use Rattle.payload.specs.Laws.Rules.{SoundScript}
-use Rattle.payload.specs.Laws.SoundTables.{holds_sound}
+use Rattle.payload.proofs.Laws.SoundTables.{holds_sound}
 use Rattle.payload.specs.Laws.Tables.{length_parts_words}
 use Rattle.payload.specs.Names.{is_listed}
 use Rattle.payload.specs.Reader.{Part, Result, State, ok, refused, start}
@@ -114,7 +114,7 @@ pub record WasRead (names p rows spans starts pool : List ℕ) (n : Counts) : Ty
   pub s : State
   pub is : reading (capacities_of (length rows) (length spans) (length starts) (length pool)) names p ≡ ok u s
   pub short : length p ≤ size_limit
-  pub payload_read_lem : read_payload (capacities_of (length rows) (length spans) (length starts) (length pool)) (is_listed names) (start p) ≡ ok u s
+  pub payload_read : read_payload (capacities_of (length rows) (length spans) (length starts) (length pool)) (is_listed names) (start p) ≡ ok u s
   pub has : ReadIs (capacities_of (length rows) (length spans) (length starts) (length pool)) p (is_listed names) u s
   pub consumed : n.consumed ≡ s.place
   pub strings : n.strings ≡ length u.pool
@@ -122,7 +122,7 @@ pub record WasRead (names p rows spans starts pool : List ℕ) (n : Counts) : Ty
   pub tables_are : read_tables p n rows spans starts ≡ tables_of p u.script
   pub pool_is : take (2 * n.strings) pool ≡ parts_words u.pool
   pub rows_fit : row_width * n.rows ≤ length rows
-  pub spans_fit_lem : 2 * n.spans ≤ length spans
+  pub spans_fit : 2 * n.spans ≤ length spans
   pub starts_fit : n.starts ≤ length starts
   pub strings_fit : 2 * n.strings ≤ length pool
 
@@ -156,7 +156,7 @@ module _ {names p rows spans starts pool : List ℕ} {n : Counts} (h : AcceptedR
         s = s;
         is = e;
         short = k.0;
-        payload_read_lem = k.1;
+        payload_read = k.1;
         has = f;
         consumed = ap (λ (m : Counts). m.consumed) a.3;
         strings = strings-n;
@@ -164,7 +164,7 @@ module _ {names p rows spans starts pool : List ℕ} {n : Counts} (h : AcceptedR
         tables_are = λ i. tables p (r i) (q i) (t i) (a.3 i).flag (a.3 i).name_o (a.3 i).name_n;
         pool_is = v;
         rows_fit = omega (arith, f.rows_are, f.rows_fit);
-        spans_fit_lem = omega (arith, f.spans_are, f.spans_fit_lem);
+        spans_fit = omega (arith, f.spans_are, f.spans_fit);
         starts_fit = omega (arith, f.starts_fit, start_count_lem u);
         strings_fit = omega (arith, f.strings_fit);
       }
@@ -199,7 +199,7 @@ module _ {names p rows spans starts pool : List ℕ} {n : Counts} (w : WasRead n
   pub not_consumed : (n.consumed ≡ length p → ⊥) → false ≡ passes
   not_consumed f = refutes (λ e.
       let r = read_back caps (small_capacities _ _ _ _) (is_listed names) p _ (writing_read e) in
-      let q : r.1 ≡ w.s = cc (r.2, w.payload_read_lem) in
+      let q : r.1 ≡ w.s = cc (r.2, w.payload_read) in
       f (w.consumed ∙ ap (λ (z : State). z.place) (sym q) ∙ r.4))
 
   pub not_positions : false ≡ all_positions (take (2 * n.spans) spans) → false ≡ passes
@@ -220,7 +220,7 @@ module _ {names p rows spans starts pool : List ℕ} {n : Counts} (w : WasRead n
         items_sound = rw (← single_bytes u.outer) (small_trees (single u.outer) (rw (single_bytes u.outer) w.has.items) small);
         line_sound_lem = w.has.line;
       } in
-      let g = holds_sound (tables_of p u) u (read_holds caps p (is_listed names) bytes w.u w.s w.payload_read_lem) sound in
+      let g = holds_sound (tables_of p u) u (read_holds caps p (is_listed names) bytes w.u w.s w.payload_read) sound in
       (g.0, ap script_of w.tables_are ∙ g.1)
 
   pub is_sound : all_positions (take (2 * n.spans) spans) ≡ true → is_ok (script_of T) ≡ true
@@ -228,13 +228,13 @@ module _ {names p rows spans starts pool : List ℕ} {n : Counts} (w : WasRead n
 
   -- the pool that was read is the one that gathering gives
   pool_of_passed : passes ≡ true → interned_parts [] (gathered w.u.script) ≡ w.u.pool
-  pool_of_passed e = read_pool_interned caps (small_capacities _ _ _ _) (is_listed names) p w.u w.s w.payload_read_lem (writing_read e)
+  pool_of_passed e = read_pool_interned caps (small_capacities _ _ _ _) (is_listed names) p w.u w.s w.payload_read (writing_read e)
 
   pool_entries : Entries w.u.pool (gathered w.u.script)
-  pool_entries = gathered_entries caps (is_listed names) (start p) w.u w.s w.payload_read_lem
+  pool_entries = gathered_entries caps (is_listed names) (start p) w.u w.s w.payload_read
 
   pool_rising : Rising 0 w.u.pool
-  pool_rising = pool_rises caps (is_listed names) (start p) w.u w.s w.payload_read_lem
+  pool_rising = pool_rises caps (is_listed names) (start p) w.u w.s w.payload_read
 
   -- the strings of the pool table are those that were read
   table_strings : pool_strings p (take (2 * n.strings) pool) ≡ bytes_of w.u.pool
@@ -252,7 +252,7 @@ module _ {names p rows spans starts pool : List ℕ} {n : Counts} (w : WasRead n
       }
 
   once_passed : passes ≡ true → distinct (bytes_of w.u.pool) ≡ true
-  once_passed e = rw (read_strings_lem caps (small_capacities _ _ _ _) (is_listed names) p w.u w.s w.payload_read_lem (writing_read e)) (unfold pool_of in (interned_distinct _ [] (unfold distinct in refl)))
+  once_passed e = rw (read_strings_lem caps (small_capacities _ _ _ _) (is_listed names) p w.u w.s w.payload_read (writing_read e)) (unfold pool_of in (interned_distinct _ [] (unfold distinct in refl)))
 
   pub not_once : false ≡ distinct (pool_strings p (take (2 * n.strings) pool)) → false ≡ passes
   not_once f = refutes (λ e. false≢true (f ∙ ap distinct table_strings ∙ once_passed e))
@@ -285,7 +285,7 @@ module _ {names p rows spans starts pool : List ℕ} {n : Counts} (w : WasRead n
     all_read e = let q : w.s.place ≡ length p = sym w.consumed ∙ e in ap is_nil (w.has.place_is ∙ ap (λ (k : ℕ). drop k p) q ∙ drop-length p)
 
     to_passes : n.consumed ≡ length p → is_writing (script_of T) p ≡ true → passes ≡ true
-    unfolding is_writing house_written house checked if◌then◌else◌ is_ok
+    unfolding is_writing house_written house checked when◌then◌else◌ is_ok
     to_passes k e =
         let g = sound_tables a in
         let d : is_writing (ok w.u.script g.0) p ≡ true = ap (λ (x : Result (Script Part)). is_writing x p) (sym g.1) ∙ e in

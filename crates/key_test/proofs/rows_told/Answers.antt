@@ -6,7 +6,6 @@ use Rattle.key_test.proofs.KeyTest.{told_none, told_one, told_first, told_functi
 use Prim.Native.Nat.{ℕ, ◌*◌}
 use mathlib.Core.Path.{refl, sym, ap, ◌∙◌}
 use native.Mathlib.Omega.{arith}
-use borrow.Author.Rules.{rules}
 use Rattle.key_test.proofs.rows_told.Goals as goal
 
 pub returns-then-tag-lt7 : goal.returns-then-tag-lt7

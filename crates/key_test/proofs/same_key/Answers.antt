@@ -4,7 +4,6 @@ use Rattle.key_test.proofs.KeyTest.{key_at}
 use Prim.Native.Nat.{◌*◌}
 use mathlib.Core.Path.{sym, ◌∙◌}
 use borrow.Author.Tests.{eq-eqb, ne_eqb}
-use borrow.Author.Rules.{rules}
 use Rattle.key_test.proofs.same_key.Goals as goal
 
 pub returns-then-tag-rows : goal.returns-then-tag-rows

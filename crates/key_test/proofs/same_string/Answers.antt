@@ -4,7 +4,6 @@ use borrow.Author.Tests.{not-true, not-false, eq-eqb, ne_eqb}
 use Rattle.key_test.specs.Keys.{same_string, stands}
 use mathlib.Core.Path.{◌≡◌, sym, ◌∙◌}
 use mathlib.Core.Bool.{true, false}
-use borrow.Author.Rules.{rules}
 use Rattle.key_test.proofs.same_string.Goals as goal
 
 pub returns-then-n-m : goal.returns-then-n-m

@@ -8,7 +8,6 @@ use mathlib.Core.Bool.{true, false}
 use mathlib.Core.List.{List}
 use native.Mathlib.Omega.{arith}
 use lib.ListN.{drop}
-use borrow.Author.Rules.{rules}
 use Rattle.key_test.proofs.seen_in.Invariants.{Searched}
 use Rattle.key_test.proofs.seen_in.Goals as goal
 

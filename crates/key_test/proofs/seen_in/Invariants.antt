@@ -1,13 +1,9 @@
 use Rattle.payload.specs.Rows.{row_width}
-use Rattle.key_test.specs.Keys.{most_rows, rows_told, same_key, seen_in}
-use Rattle.key_test.proofs.KeyTest.{seen_end, seen_same, seen_other, seen_skip}
-use Prim.Native.Nat.{ℕ, suc, ◌+◌, ◌-◌, ◌*◌, ◌≤◌, ◌<◌}
-use mathlib.Core.Path.{◌≡◌, sym, ap, ◌∙◌}
-use mathlib.Core.Bool.{true, false}
+use Rattle.key_test.specs.Keys.{most_rows, seen_in}
+use Prim.Native.Nat.{ℕ, ◌+◌, ◌-◌, ◌*◌, ◌≤◌}
+use mathlib.Core.Path.{◌≡◌}
 use mathlib.Core.List.{List}
-use native.Mathlib.Omega.{arith}
 use lib.ListN.{drop}
-use borrow.Author.Rules.{rules}
 use Rattle.key_test.proofs.seen_in.Given as goal
 
 -- the search from here on finds what the search from the start finds

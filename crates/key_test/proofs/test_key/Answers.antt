@@ -8,7 +8,6 @@ use Prim.Native.Nat.{◌*◌}
 use mathlib.Core.Path.{◌≡◌, sym, ◌∙◌}
 use mathlib.Core.Bool.{true, false}
 use lib.ListN.{get_or}
-use borrow.Author.Rules.{rules}
 use Rattle.key_test.proofs.test_key.Goals as goal
 
 pub returns-then-not-is_key_tag : goal.returns-then-not-is_key_tag

@@ -2,7 +2,7 @@
 use Rattle.std.specs.Prelude.{Bool, true, ◌&&◌, List, [], ◌∷◌, ◌≡◌, ℕ, zero, suc, ◌+◌, ◌≤◌, ◌<◌, get_or, length}
 use Rattle.std.proofs.Math.Bool.{and-eq-true_iff}
 use Rattle.std.proofs.Common.{add-zero, zero-add, arith, ne_eqb}
-use Rattle.payload.specs.Choice.{if◌then◌else◌}
+use Rattle.payload.specs.Choice.{when◌then◌else◌}
 use Rattle.payload.specs.Shapes.{Shape, no_value, with_kids, shape, shapes}
 
 -- the test passes at each entry of the list and its index, counted from i
@@ -20,6 +20,6 @@ every_at f (x ∷ xs) i t (suc k) d h =
 
 -- a rule of tag and shape that holds in the table
 pub by_table : (f : ℕ → Shape → Bool) → every f 0 shapes ≡ true → (t : ℕ) → t ≤ 26 → f t (shape t) ≡ true
-unfolding shape shapes if◌then◌else◌
+unfolding shape shapes when◌then◌else◌
 by_table f e t h = rw (ne_eqb t 32 (λ q. omega (arith, q)), ne_eqb t 33 (λ q. omega (arith, q)))
     (rw (zero-add t) at (every_at f shapes 0 e t (with_kids [] no_value) (omega arith)))

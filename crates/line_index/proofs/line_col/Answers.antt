@@ -1,6 +1,5 @@
 -- The two answers, from what the callees ensure.
 use native.Mathlib.Omega.{arith}
-use borrow.Author.Rules.{rules}
 use Rattle.line_index.specs.Laws.LineCol.{not_rising, rising}
 use Rattle.line_index.proofs.line_col.Goals as goal
 

@@ -1,14 +1,12 @@
 -- The table's front holds the starts that the loop has met, and the rest of the text gives the others.
-use Prim.Native.Nat.{ℕ, ◌+◌, ◌-◌, ◌≤◌}
+use Prim.Native.Nat.{ℕ, ◌+◌}
 use mathlib.Core.Path.{◌≡◌, refl, sym, ap, ◌∙◌}
-use mathlib.Core.Logic.{⊎_elim}
 use mathlib.Core.List.{List, ◌++◌, append-nil}
 use native.Mathlib.Omega.{arith}
 use lib.Arith.{lt_of_le-ne}
-use lib.ListN.{length, take, drop, length-set}
+use lib.ListN.{length, take, length-set}
 use lib.Seq.{length-take-le, take_all}
-use borrow.Author.Rules.{rules}
-use Rattle.line_index.specs.LineIndex.{line_starts, after_newlines}
+use Rattle.line_index.specs.LineIndex.{line_starts}
 use Rattle.line_index.specs.Laws.LineIndex.{newline, no_newline, text_end, too_long, no_room, made, full}
 use Rattle.line_index.proofs.Table.{first_start, next_start}
 use Rattle.line_index.proofs.line_starts.Goals.{else-text-i-eq10, then-text-i-eq10+else-n-most}
@@ -46,7 +44,7 @@ returns-then-n-most-clause-value c =
     let s : List ℕ = at.starts in
     let held : length (take at.n s) ≡ at.n = length-take-le at.n s (omega (arith, length-set a.starts.now 0 0)) in
     let taken = sym c.room-most.ensures ∙ sym c.if-n-most.true ∙ sym held in sym (full t (length a.starts.now) (omega arith) at.i (take at.n s) _ taken
-          (at.invariant.4 ∙ ap (λ (r : List ℕ). take at.n s ++ r) (newline t at.i c.loop-i-test.true c.if-text-i-eq10.true)))
+    (at.invariant.4 ∙ ap (λ (r : List ℕ). take at.n s ++ r) (newline t at.i c.loop-i-test.true c.if-text-i-eq10.true)))
 
 pub returns-then-n-most-clause-starts_after : goal.returns-then-n-most-clause-starts_after
 returns-then-n-most-clause-starts_after c =
@@ -73,8 +71,11 @@ loop-i-preserved c =
     let inv = at.invariant in
     let z = length-set a.starts.now 0 0 in
     let go = c.loop-i-test.true in
-    elim c.if-text-i-eq10.branch [ then-text-i-eq10+else-n-most w ↦ let below = lt_of_le-ne inv.2 w.if-n-most.false in
-    rw (w.starts-is, w.n-is) (omega arith, omega arith, omega arith, length-set s n (i + 1) ∙ inv.3, next_start _ t s n i (omega arith) go w.if-text-i-eq10.true inv.4) | else-text-i-eq10 w ↦ rw (w.starts-is, w.n-is) (omega arith, omega arith, omega arith, inv.3, inv.4 ∙ ap (λ (r : List ℕ). take n s ++ r) (no_newline t i go w.if-text-i-eq10.false)) ]
+    elim c.if-text-i-eq10.branch [
+      | then-text-i-eq10+else-n-most w ↦ let below = lt_of_le-ne inv.2 w.if-n-most.false in
+          rw (w.starts-is, w.n-is) (omega arith, omega arith, omega arith, length-set s n (i + 1) ∙ inv.3, next_start _ t s n i (omega arith) go w.if-text-i-eq10.true inv.4)
+      | else-text-i-eq10 w ↦ rw (w.starts-is, w.n-is) (omega arith, omega arith, omega arith, inv.3, inv.4 ∙ ap (λ (r : List ℕ). take n s ++ r) (no_newline t i go w.if-text-i-eq10.false))
+    ]
 
 pub shape_of-starts : goal.shape_of-starts
 shape_of-starts c =

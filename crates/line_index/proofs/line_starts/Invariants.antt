@@ -1,15 +1,8 @@
-use Prim.Native.Nat.{ℕ, ◌+◌, ◌-◌, ◌≤◌}
-use mathlib.Core.Path.{◌≡◌, refl, sym, ap, ◌∙◌}
-use mathlib.Core.Logic.{⊎_elim}
-use mathlib.Core.List.{List, ◌++◌, append-nil}
-use native.Mathlib.Omega.{arith}
-use lib.Arith.{lt_of_le-ne}
-use lib.ListN.{length, take, drop, length-set}
-use lib.Seq.{length-take-le, take_all}
-use borrow.Author.Rules.{rules}
+use Prim.Native.Nat.{◌-◌, ◌≤◌}
+use mathlib.Core.Path.{◌≡◌}
+use mathlib.Core.List.{◌++◌}
+use lib.ListN.{length, take, drop}
 use Rattle.line_index.specs.LineIndex.{line_starts, after_newlines}
-use Rattle.line_index.specs.Laws.LineIndex.{newline, no_newline, text_end, too_long, no_room, made, full}
-use Rattle.line_index.proofs.Table.{first_start, next_start}
 use Rattle.line_index.proofs.line_starts.Given as goal
 
 abbrev pub invariant-loop-i : goal.invariant-loop-i

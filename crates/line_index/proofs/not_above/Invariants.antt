@@ -1,11 +1,7 @@
 use Prim.Native.Nat.{◌+◌, ◌-◌, ◌≤◌}
 use mathlib.Core.Path.{◌≡◌}
-use mathlib.Core.Logic.{⊎_elim}
-use native.Mathlib.Omega.{arith}
 use lib.ListN.{length, drop}
-use borrow.Author.Rules.{rules}
 use Rattle.line_index.specs.LineCol.{not_above}
-use Rattle.line_index.specs.Laws.LineCol.{above_yes, above_no, above_end}
 use Rattle.line_index.proofs.not_above.Given as goal
 
 abbrev pub invariant-loop-i : goal.invariant-loop-i

@@ -1,9 +1,6 @@
 -- The starts rise up to the index that the loop has come to.
-use Prim.Native.Nat.{◌+◌, ◌-◌, ◌<◌}
+use Prim.Native.Nat.{◌+◌}
 use native.Mathlib.Omega.{arith}
-use lib.ListN.{length}
-use borrow.Author.Rules.{rules}
-use Rattle.line_index.specs.Rises.{Rises}
 use Rattle.line_index.specs.Laws.LineCol.{rises_on}
 use Rattle.line_index.proofs.rising_blocks.Goals as goal
 

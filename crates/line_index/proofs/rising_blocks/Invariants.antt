@@ -1,9 +1,6 @@
-use Prim.Native.Nat.{◌+◌, ◌-◌, ◌<◌}
-use native.Mathlib.Omega.{arith}
+use Prim.Native.Nat.{◌-◌, ◌<◌}
 use lib.ListN.{length}
-use borrow.Author.Rules.{rules}
 use Rattle.line_index.specs.Rises.{Rises}
-use Rattle.line_index.specs.Laws.LineCol.{rises_on}
 use Rattle.line_index.proofs.rising_blocks.Given as goal
 
 abbrev pub invariant-loop-i : goal.invariant-loop-i

@@ -1,10 +1,6 @@
 -- The starts before the loop's index rise, and the prefix goes on as far as those from there rise above the last.
-use Prim.Native.Nat.{◌+◌, ◌-◌, ◌≤◌}
-use mathlib.Core.Path.{◌≡◌, sym}
+use mathlib.Core.Path.{sym}
 use native.Mathlib.Omega.{arith}
-use lib.ListN.{length, drop}
-use borrow.Author.Rules.{rules}
-use Rattle.line_index.specs.LineCol.{rising_prefix, rising_above}
 use Rattle.line_index.specs.Laws.LineCol.{rise_none, rise_run, rise_more, rise_stop, rise_end}
 use Rattle.line_index.proofs.rising_prefix.Goals as goal
 

@@ -1,10 +1,7 @@
 use Prim.Native.Nat.{◌+◌, ◌-◌, ◌≤◌}
-use mathlib.Core.Path.{◌≡◌, sym}
-use native.Mathlib.Omega.{arith}
+use mathlib.Core.Path.{◌≡◌}
 use lib.ListN.{length, drop}
-use borrow.Author.Rules.{rules}
 use Rattle.line_index.specs.LineCol.{rising_prefix, rising_above}
-use Rattle.line_index.specs.Laws.LineCol.{rise_none, rise_run, rise_more, rise_stop, rise_end}
 use Rattle.line_index.proofs.rising_prefix.Given as goal
 
 abbrev pub invariant-loop-i : goal.invariant-loop-i

@@ -1,5 +1,4 @@
 -- `room` meets its contract: the capacity for starts is that of lent tables.
-use borrow.Author.Rules.{rules}
 use Rattle.payload.specs.Tables.{capacities_of}
 use Rattle.line_index.proofs.room.Goals as goal
 

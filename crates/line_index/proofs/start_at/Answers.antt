@@ -1,7 +1,6 @@
 -- Past the end of a list `get_or` gives 0.
 use lib.ListN.{get_or-eq_default}
 use mathlib.Core.Path.{sym}
-use borrow.Author.Rules.{rules}
 use Rattle.line_index.proofs.start_at.Goals as goal
 
 pub returns-else-i-starts : goal.returns-else-i-starts

@@ -2,7 +2,6 @@
 use mathlib.Core.Bool.{false≢true}
 use mathlib.Core.Path.{sym}
 use native.Mathlib.Omega.{arith}
-use borrow.Author.Rules.{rules}
 use borrow.Author.Tests.{eqb-true, eqb-false}
 use Rattle.native_names.proofs.begins_at.Goals as goal
 

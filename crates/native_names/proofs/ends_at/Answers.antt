@@ -3,7 +3,6 @@ use mathlib.Core.Bool.{false≢true}
 use mathlib.Core.Path.{◌≡◌, sym, ◌∙◌}
 use Prim.Native.Nat.{◌+◌, ◌-◌}
 use native.Mathlib.Omega.{arith}
-use borrow.Author.Rules.{rules}
 use borrow.Author.Tests.{not-true, not-false}
 use Rattle.slices.specs.Laws.Same.{same_eq, same_refl}
 use Rattle.native_names.proofs.ends_at.Goals as goal

@@ -2,7 +2,6 @@
 use mathlib.Core.Path.{◌≡◌}
 use Prim.Native.Nat.{ℕ}
 use native.Mathlib.Omega.{arith}
-use borrow.Author.Rules.{rules}
 use Rattle.native_names.proofs.ends_at_hint.Goals as goal
 
 pub returns-then-i-n : goal.returns-then-i-n

@@ -1,11 +1,7 @@
 -- `ends_between` meets its contract: the string is no name that ends at an index passed.
 use mathlib.Core.Bool.{false≢true}
 use mathlib.Core.Path.{sym}
-use Prim.Native.Nat.{ℕ, ◌-◌, ◌≤◌, ◌<◌}
 use native.Mathlib.Omega.{arith}
-use lib.ListN.{drop, take}
-use borrow.Author.Rules.{rules}
-use Rattle.native_names.specs.NameEnds.{NameEnds}
 use Rattle.native_names.proofs.Listed.{range_more}
 use Rattle.native_names.proofs.ends_between.Goals as goal
 

@@ -1,11 +1,6 @@
-use mathlib.Core.Bool.{false≢true}
-use mathlib.Core.Path.{sym}
 use Prim.Native.Nat.{ℕ, ◌-◌, ◌≤◌, ◌<◌}
-use native.Mathlib.Omega.{arith}
 use lib.ListN.{drop, take}
-use borrow.Author.Rules.{rules}
 use Rattle.native_names.specs.NameEnds.{NameEnds}
-use Rattle.native_names.proofs.Listed.{range_more}
 use Rattle.native_names.proofs.ends_between.Given as goal
 
 abbrev pub invariant-loop-i : goal.invariant-loop-i

@@ -1,7 +1,6 @@
 -- `ends_in_block` meets its contract: a name that ends in the block passes its test.
 use mathlib.Core.Bool.{false≢true}
 use native.Mathlib.Omega.{arith}
-use borrow.Author.Rules.{rules}
 use borrow.Author.Tests.{not-true}
 use Rattle.native_names.proofs.Listed.{may_end}
 use Rattle.native_names.proofs.ends_in_block.Goals as goal

@@ -1,11 +1,5 @@
-use mathlib.Core.Bool.{false≢true}
-use mathlib.Core.Path.{◌≡◌}
-use mathlib.Core.Path.{sym}
 use Prim.Native.Nat.{◌-◌, ◌≤◌}
-use native.Mathlib.Omega.{arith}
-use borrow.Author.Rules.{rules}
 use Rattle.native_names.specs.NameEnds.{Clear}
-use Rattle.native_names.proofs.Listed.{range_more}
 use Rattle.native_names.proofs.is_clear.Given as goal
 
 abbrev pub invariant-loop-k : goal.invariant-loop-k

@@ -1,10 +1,6 @@
 -- `is_listed` meets its contract: the string is no name that ends at an index passed.
 use mathlib.Core.Path.{◌≡◌, sym}
-use Prim.Native.Nat.{ℕ, ◌-◌, ◌≤◌, ◌<◌}
 use native.Mathlib.Omega.{arith}
-use lib.ListN.{drop, length, take}
-use borrow.Author.Rules.{rules}
-use Rattle.native_names.specs.NameEnds.{NameEnds}
 use Rattle.native_names.proofs.Listed.{length_part, range_join, listed_if, listed_none, listed_is}
 use Rattle.native_names.proofs.is_listed.Goals as goal
 

@@ -1,10 +1,6 @@
-use mathlib.Core.Path.{◌≡◌, sym}
 use Prim.Native.Nat.{ℕ, ◌-◌, ◌≤◌, ◌<◌}
-use native.Mathlib.Omega.{arith}
 use lib.ListN.{drop, length, take}
-use borrow.Author.Rules.{rules}
 use Rattle.native_names.specs.NameEnds.{NameEnds}
-use Rattle.native_names.proofs.Listed.{length_part, range_join, listed_if, listed_none, listed_is}
 use Rattle.native_names.proofs.is_listed.Given as goal
 
 abbrev pub invariant-loop-i : goal.invariant-loop-i

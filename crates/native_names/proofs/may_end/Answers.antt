@@ -1,10 +1,7 @@
 -- `may_end` meets its contract: while `any` is false, the test held at no index passed.
-use mathlib.Core.Bool.{false}
 use mathlib.Core.Path.{◌≡◌}
-use Prim.Native.Nat.{ℕ, ◌+◌, ◌-◌, ◌≤◌, ◌<◌}
+use Prim.Native.Nat.{◌+◌}
 use native.Mathlib.Omega.{arith}
-use borrow.Author.Rules.{rules}
-use Rattle.native_names.specs.NameEnds.{MayEnd}
 use Rattle.native_names.proofs.Listed.{block_more}
 use Rattle.native_names.proofs.may_end.Goals as goal
 

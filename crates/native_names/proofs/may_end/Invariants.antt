@@ -1,10 +1,7 @@
 use mathlib.Core.Bool.{false}
 use mathlib.Core.Path.{◌≡◌}
-use Prim.Native.Nat.{ℕ, ◌+◌, ◌-◌, ◌≤◌, ◌<◌}
-use native.Mathlib.Omega.{arith}
-use borrow.Author.Rules.{rules}
+use Prim.Native.Nat.{ℕ, ◌-◌, ◌≤◌, ◌<◌}
 use Rattle.native_names.specs.NameEnds.{MayEnd}
-use Rattle.native_names.proofs.Listed.{block_more}
 use Rattle.native_names.proofs.may_end.Given as goal
 
 abbrev pub invariant-loop-k : goal.invariant-loop-k

@@ -1,5 +1,4 @@
 -- `payload::row_capacity` meets its contract. Assumes nothing.
-use borrow.Author.Rules.{rules}
 use Rattle.payload.specs.Tables.{capacities_of}
 use Rattle.payload.proofs.row_capacity.Goals as goal
 

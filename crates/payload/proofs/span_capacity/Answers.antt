@@ -1,5 +1,4 @@
 -- `payload::span_capacity` meets its contract. Assumes nothing.
-use borrow.Author.Rules.{rules}
 use Rattle.payload.specs.Tables.{capacities_of}
 use Rattle.payload.proofs.span_capacity.Goals as goal
 

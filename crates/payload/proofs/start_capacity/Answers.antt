@@ -1,5 +1,4 @@
 -- `payload::start_capacity` meets its contract. Assumes nothing.
-use borrow.Author.Rules.{rules}
 use Rattle.payload.specs.Tables.{capacities_of}
 use Rattle.payload.proofs.start_capacity.Goals as goal
 

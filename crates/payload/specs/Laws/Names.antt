@@ -1,7 +1,7 @@
 -- What a names list holds: each name up to its 0A; what follows the last 0A counts for nothing.
 use Rattle.std.specs.Prelude.{false, List, [], ◌++◌, ◌∷◌, ◌≡◌, refl, ℕ, eqb}
 use Rattle.slices.specs.Same.{same}
-use Rattle.payload.specs.Choice.{◌or◌, if◌then◌else◌}
+use Rattle.payload.specs.Choice.{◌or◌, when◌then◌else◌}
 use Rattle.payload.specs.Names.{is_listed, names_of, onto}
 use Rattle.payload.specs.Pool.{is_in}
 
@@ -11,12 +11,12 @@ NoEnd [] = Unit {0}
 NoEnd (b ∷ bs) = (eqb b 0x0A ≡ false) × NoEnd bs
 
 pub first_name : (name rest : List ℕ) → NoEnd name → names_of (name ++ 0x0A ∷ rest) ≡ name ∷ names_of rest
-unfolding NoEnd names_of if◌then◌else◌
+unfolding NoEnd names_of when◌then◌else◌
 first_name [] rest h = refl
 first_name (b ∷ bs) rest h = rw (h.0, first_name bs rest h.1) (unfold onto in refl)
 
 pub no_name : (bytes : List ℕ) → NoEnd bytes → names_of bytes ≡ []
-unfolding NoEnd names_of if◌then◌else◌
+unfolding NoEnd names_of when◌then◌else◌
 no_name [] h = refl
 no_name (b ∷ bs) h = rw (h.0, no_name bs h.1) (unfold onto in refl)
 

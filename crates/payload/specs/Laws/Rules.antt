@@ -2,7 +2,7 @@
 use Rattle.std.specs.Prelude.{Bool, false, not, true, List, [], ◌∷◌, ◌≡◌, ◌<◌, ◌^◌, ◌≤◌, pred, ℕ, eqb, leb, ltb, length}
 use Rattle.std.proofs.Math.Option.{Option, none, some}
 use Rattle.utf8.specs.Utf8.{is_utf8}
-use Rattle.payload.specs.Choice.{◌and◌, if◌then◌else◌}
+use Rattle.payload.specs.Choice.{◌and◌, when◌then◌else◌}
 use Rattle.payload.specs.Demand3.{all_items}
 use Rattle.payload.specs.Numbers.{NumberKind-discrete, fits_kind}
 use Rattle.payload.specs.Pool.{is_in}
@@ -73,7 +73,7 @@ row_rule (with_template ks) is (r ∷ rs) = same_kinds ks is and eqb r.tag 7 and
 -- with d levels left: a value takes one, a chunk or field row none
 unfoldable pub obey_rules : ℕ → Trees (List ℕ) → Bool
 obey_rules d nil = true
-obey_rules d (node t is ks ts) = row_rule (shape t) is (roots ks) and if◌then◌else◌ (leb t 26) (ltb 0 d and obey_rules (pred d) ks) (obey_rules d ks) and obey_rules d ts
+obey_rules d (node t is ks ts) = row_rule (shape t) is (roots ks) and when◌then◌else◌ (leb t 26) (ltb 0 d and obey_rules (pred d) ks) (obey_rules d ks) and obey_rules d ts
 
 unfoldable pub item_sound : Item (List ℕ) → Bool
 item_sound (number k w) = fits_kind k w

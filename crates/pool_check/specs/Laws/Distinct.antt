@@ -9,7 +9,7 @@ use Rattle.std.proofs.Math.ListN.{take}
 use borrow.Author.Tests.{eq-eqb, ne_eqb, not-true}
 use Rattle.slices.specs.Laws.Same.{same_no, same_refl}
 use Rattle.slices.specs.Same.{same}
-use Rattle.payload.specs.Choice.{◌and◌, if◌then◌else◌}
+use Rattle.payload.specs.Choice.{when◌then◌else◌}
 use Rattle.payload.specs.Laws.Pool.{and_both, false≢true}
 use Rattle.payload.specs.Pool.{is_in}
 use Rattle.payload.specs.Rows.{part_words}
@@ -117,7 +117,7 @@ module _ {s p₀ p : List ℕ} {k : ℕ} (h : PartsIn s p₀) (g : Linking s p�
         false≢true (sym e ∙ added_is s p k o n linking_room ∙ ap not none)
 
     pub linking_found : {p' : List ℕ} → p' ≡ linked_after s p k o n → is_added s p k o n ≡ false → LinkedFirst s p₀ p' k
-    unfolding linked_after linked if◌then◌else◌
+    unfolding linked_after linked when◌then◌else◌
     linking_found {p'} e q =
         let z : p' ≡ p = e ∙ rw q in
         rw z (record {
@@ -132,14 +132,14 @@ module _ {s p₀ p : List ℕ} {k : ℕ} (h : PartsIn s p₀) (g : Linking s p�
 
     module _ {p' : List ℕ} (e : p' ≡ linked_after s p k o n) (f : Kept s p p' k (used_after s p k o n) (part_in s o n ∷ [])) (new : is_added s p k o n ≡ true) where
       one_more : used_after s p k o n ≡ suc k
-      unfolding used_after if◌then◌else◌
+      unfolding used_after when◌then◌else◌
       one_more = rw new (add-one k)
 
       held : Holding s p' (suc k)
       held = subst (λ (m : ℕ). Holding s p' m) one_more f.holding
 
       parts : first_parts s p' (suc k) ≡ first_parts s p k ++ (part_in s o n ∷ [])
-      unfolding interned_parts part_in if◌then◌else◌
+      unfolding interned_parts part_in when◌then◌else◌
       parts =
           let lacks = not-true (has_bytes (bytes_at s o n) (first_parts s p k)) (sym (added_is s p k o n linking_room) ∙ new) in
           ap (first_parts s p') (sym one_more) ∙ f.parts ∙ rw lacks
@@ -153,7 +153,7 @@ module _ {s p₀ p : List ℕ} {k : ℕ} (h : PartsIn s p₀) (g : Linking s p�
           ∙ sym (take_entry p₀ k (omega arith))
 
       rest : drop (2 * suc k) (unlinked (suc k) p') ≡ drop (2 * suc k) p₀
-      unfolding linked_after linked part_in if◌then◌else◌
+      unfolding linked_after linked part_in when◌then◌else◌
       rest =
           let hung = free_slot (link_at p) k (path_of (bytes_at s o n)) 0 in
           let one : p' ≡ added p k hung (min o (length s)) (mark_of (bytes_at s o n)) = e ∙ rw new in

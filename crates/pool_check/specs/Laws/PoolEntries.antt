@@ -7,7 +7,7 @@ use Rattle.std.proofs.Math.Path.{refl}
 use Rattle.std.proofs.Common.{subst}
 use Prim.Native.Nat.{◌<◌, ◌^◌, suc, zero, ℕ}
 use borrow.Author.Tests.{ltb-true}
-use Rattle.payload.specs.Laws.Keeps.{invert, not_ok}
+use Rattle.payload.proofs.Laws.Keeps.{invert, not_ok}
 use Rattle.payload.specs.Numbers.{cut_to, read_number, varint}
 use Rattle.payload.specs.Reader.{Part, Reader, State, ◌>>=◌, ◌>>◌, byte, here, must, new_row, ok, pure}
 use Rattle.payload.specs.Reading.{Context, Payload, node_key, read_chunk, read_flagged, read_item, read_items, read_keys, read_kids, read_line_index, read_many}

@@ -15,8 +15,8 @@ use Rattle.varint.specs.Laws.RoundTrip.{reads_within}
 use Rattle.varint.specs.Varint.{varint_of}
 use Rattle.varint.specs.declared.Varint.{Varint}
 use Rattle.varint.specs.declared.Varint.TheVariants.{Number, Refused}
-use Rattle.payload.specs.Choice.{◌or◌, if◌then◌else◌}
-use Rattle.payload.specs.Laws.Keeps.{invert, not_ok}
+use Rattle.payload.specs.Choice.{◌or◌, when◌then◌else◌}
+use Rattle.payload.proofs.Laws.Keeps.{invert, not_ok}
 use Rattle.payload.specs.Numbers.{after_varint, varint}
 use Rattle.payload.specs.Reader.{Part, State, ◌>>=◌, ◌>>◌, advanced, body, here, must, ok, pure}
 use Rattle.payload.specs.Reading.{Payload, read_chunk, read_line_index, read_payload, read_pool, read_string, read_strings}
@@ -132,7 +132,7 @@ rises_between p (x ∷ xs) r (suc i) (suc j) l h = rises_between x.offset xs r.1
 
 -- how many entries are met after one more string: a new one where it is the next; past the count where it is a later one
 unfoldable meet : List Part → ℕ → Part → ℕ
-meet pool k x = if ltb k (length pool) then (if eqb x.offset (get_or pool k no_part).offset then suc k else if ltb (get_or pool k no_part).offset x.offset then suc (length pool) else k) else k
+meet pool k x = when ltb k (length pool) then (when eqb x.offset (get_or pool k no_part).offset then suc k else when ltb (get_or pool k no_part).offset x.offset then suc (length pool) else k) else k
 
 unfoldable meet_all : List Part → ℕ → List Part → ℕ
 meet_all pool k [] = k
@@ -160,7 +160,7 @@ words_meet_all pool k [] = refl
 words_meet_all pool k (x ∷ xs) = ap (λ (j : ℕ). words.meet_all (parts_words pool) j xs) (words_meet pool k x.offset x refl) ∙ words_meet_all pool (meet pool k x) xs
 
 meet_past : (pool : List Part) (k : ℕ) → length pool < k → (xs : List Part) → meet_all pool k xs ≡ k
-unfolding meet_all meet if◌then◌else◌
+unfolding meet_all meet when◌then◌else◌
 meet_past pool k h [] = refl
 meet_past pool k h (x ∷ xs) = rw (le-ltb k (length pool) (omega arith)) (meet_past pool k h xs)
 
@@ -171,9 +171,9 @@ interned_begins l [] = ([], sym (append-nil l))
 interned_begins l (x ∷ xs) = go (has_bytes x.bytes l) (interned_begins l xs) (interned_begins (l ++ (x ∷ [])) xs)
   where
     go : (t : Bool) → (more : List Part) × (interned_parts l xs ≡ l ++ more) → (more : List Part) × (interned_parts (l ++ (x ∷ [])) xs ≡ (l ++ (x ∷ [])) ++ more)
-        → (more : List Part) × (interned_parts (if◌then◌else◌ t l (l ++ (x ∷ []))) xs ≡ l ++ more)
-    go true v w = unfold if◌then◌else◌ in v
-    go false v w = unfold if◌then◌else◌ in (x ∷ w.0, w.1 ∙ append_assoc l (x ∷ []) w.0)
+        → (more : List Part) × (interned_parts (when◌then◌else◌ t l (l ++ (x ∷ []))) xs ≡ l ++ more)
+    go true v w = unfold when◌then◌else◌ in v
+    go false v w = unfold when◌then◌else◌ in (x ∷ w.0, w.1 ∙ append_assoc l (x ∷ []) w.0)
 
 has_at : (b : List ℕ) (l : List Part) (j : ℕ) → j < length l → same b (get_or l j no_part).bytes ≡ true → has_bytes b l ≡ true
 unfolding has_bytes
@@ -210,29 +210,29 @@ module _ (pool : List Part) (rising : Rising 0 pool) (once : distinct (bytes_of 
 
     -- an entry that was met
     meet_old : i < k → meet pool k x ≡ k
-    unfolding meet if◌then◌else◌
+    unfolding meet when◌then◌else◌
     meet_old h = go (ltb k (length pool)) refl
       where
-        go : (t : Bool) → ltb k (length pool) ≡ t → if◌then◌else◌ t (if◌then◌else◌ (eqb x.offset (offset_at pool k)) (suc k) (if◌then◌else◌ (ltb (offset_at pool k) x.offset) (suc (length pool)) k)) k ≡ k
+        go : (t : Bool) → ltb k (length pool) ≡ t → when◌then◌else◌ t (when◌then◌else◌ (eqb x.offset (offset_at pool k)) (suc k) (when◌then◌else◌ (ltb (offset_at pool k) x.offset) (suc (length pool)) k)) k ≡ k
         go false q = refl
         go true q = let g = rises_between 0 pool rising i k h (ltb-true _ _ q) in rw (ne_eqb x.offset (offset_at pool k) (λ e. omega arith), le-ltb (offset_at pool k) x.offset (omega arith))
 
     -- the next one
     meet_next : i ≡ k → meet pool k x ≡ suc k
-    unfolding meet if◌then◌else◌
+    unfolding meet when◌then◌else◌
     meet_next e = rw (lt-ltb k (length pool) (omega arith), eq-eqb x.offset (offset_at pool k) (ap (offset_at pool) e))
 
     -- a later one
     meet_late : k < i → meet pool k x ≡ suc (length pool)
-    unfolding meet if◌then◌else◌
+    unfolding meet when◌then◌else◌
     meet_late h = let g = rises_between 0 pool rising k i h below in rw (lt-ltb k (length pool) (omega arith), ne_eqb x.offset (offset_at pool k) (λ e. omega arith), lt-ltb (offset_at pool k) x.offset g)
 
     interned_old : i < k → (xs : List Part) → interned_parts (take k pool) (x ∷ xs) ≡ interned_parts (take k pool) xs
-    unfolding interned_parts if◌then◌else◌
+    unfolding interned_parts when◌then◌else◌
     interned_old h xs = rw (first_has h)
 
     interned_new : k ≤ i → (xs : List Part) → interned_parts (take k pool) (x ∷ xs) ≡ interned_parts (take k pool ++ (x ∷ [])) xs
-    unfolding interned_parts if◌then◌else◌
+    unfolding interned_parts when◌then◌else◌
     interned_new h xs = rw (first_has_not h)
 
     taken_next : i ≡ k → take k pool ++ (x ∷ []) ≡ take (suc k) pool

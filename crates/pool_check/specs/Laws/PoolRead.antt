@@ -6,15 +6,15 @@ use Rattle.std.proofs.Common.{◌∙◌, ap, arith, ext_get_or}
 use Rattle.std.proofs.Math.Path.{sym}
 use Rattle.std.proofs.Math.ListN.{get_or-map}
 use Rattle.std.proofs.lemmas.List.{length-map}
-use Rattle.payload.specs.Choice.{if◌then◌else◌}
-use Rattle.payload.specs.Laws.House.{IsWriting, read_strings_lem}
+use Rattle.payload.specs.Choice.{when◌then◌else◌}
+use Rattle.payload.proofs.Laws.House.{IsWriting, read_strings_lem}
 use Rattle.payload.specs.Laws.Rules.{Small}
 use Rattle.payload.specs.Reader.{Part, State, ok, start}
 use Rattle.payload.specs.Reading.{Payload, read_payload}
 use Rattle.payload.specs.declared.Capacities.{Capacities}
 use Rattle.payload.specs.Trees.{forget_script}
 use Rattle.payload.specs.Write.{has_bytes, interned_parts}
-use Rattle.payload.specs.Writing.{gathered, pool_of, writing}
+use Rattle.payload.specs.Writing.{gathered, pool_of}
 use Rattle.pool_index.specs.Laws.Distinct.{interned_distinct}
 use Rattle.pool_index.specs.Strings.{distinct}
 use Rattle.gather.specs.Laws.Parts.{bytes_of, pool_bytes}
@@ -26,11 +26,11 @@ use Rattle.pool_check.specs.Laws.PoolEntries.{Entries, Entry, entries_append, ga
 entries_interned : (pool l xs : List Part) → Entries pool l → Entries pool xs → Entries pool (interned_parts l xs)
 unfolding interned_parts Entries
 entries_interned pool l [] h k = h
-entries_interned pool l (x ∷ xs) h k = entries_interned pool _ xs (go (has_bytes x.bytes l)) k.1
+entries_interned pool l (x ∷ xs) h k = entries_interned pool (when◌then◌else◌ (has_bytes x.bytes l) l (l ++ (x ∷ []))) xs (go (has_bytes x.bytes l)) k.1
   where
-    go : (t : Bool) → Entries pool (if◌then◌else◌ t l (l ++ (x ∷ [])))
-    go true = unfold if◌then◌else◌ in h
-    go false = unfold if◌then◌else◌ in (entries_append pool l (x ∷ []) h (k.0, tt))
+    go : (t : Bool) → Entries pool (when◌then◌else◌ t l (l ++ (x ∷ [])))
+    go true = unfold when◌then◌else◌ in h
+    go false = unfold when◌then◌else◌ in (entries_append pool l (x ∷ []) h (k.0, tt))
 
 entry_at : (pool xs : List Part) → Entries pool xs → (k : ℕ) → k < length xs → Entry pool (get_or xs k no_part)
 unfolding Entries

@@ -1,9 +1,6 @@
 -- `pool_index::by_hash` meets its contract: an entry that is answered was compared; links are followed only upwards.
-use Prim.Native.Nat.{◌-◌, ◌/◌}
 use mathlib.Core.Path.{sym, ◌∙◌}
 use native.Mathlib.Omega.{arith}
-use lib.ListN.{length}
-use borrow.Author.Rules.{rules}
 use Rattle.pool_index.proofs.by_hash.Goals as goal
 
 pub returns-then-length-gt-SIZE : goal.returns-then-length-gt-SIZE

@@ -1,8 +1,5 @@
 use Prim.Native.Nat.{◌-◌, ◌/◌}
-use mathlib.Core.Path.{sym, ◌∙◌}
-use native.Mathlib.Omega.{arith}
 use lib.ListN.{length}
-use borrow.Author.Rules.{rules}
 use Rattle.pool_index.proofs.by_hash.Given as goal
 
 abbrev pub invariant-loop-k : goal.invariant-loop-k

@@ -1,6 +1,5 @@
 use Prim.Native.Nat.{◌-◌, ◌/◌, ◌≤◌}
 use lib.ListN.{length}
-use borrow.Author.Rules.{rules}
 use Rattle.pool_index.proofs.by_offset.Given as goal
 
 abbrev pub invariant-loop-low : goal.invariant-loop-low

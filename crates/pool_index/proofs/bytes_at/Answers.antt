@@ -2,7 +2,6 @@
 use mathlib.Core.Path.{◌≡◌}
 use Prim.Native.Nat.{◌+◌, ◌-◌}
 use native.Mathlib.Omega.{arith}
-use borrow.Author.Rules.{rules}
 use Rattle.pool_index.specs.Laws.Strings.{bytes_cut}
 use Rattle.pool_index.proofs.bytes_at.Goals as goal
 

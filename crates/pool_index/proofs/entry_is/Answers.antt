@@ -4,7 +4,6 @@ use Rattle.slices.specs.Same.{same}
 use Rattle.pool_index.specs.Strings.{bytes_at}
 use Prim.Native.Nat.{ℕ}
 use mathlib.Core.Path.{◌∙◌}
-use borrow.Author.Rules.{rules}
 use Rattle.pool_index.proofs.entry_is.Goals as goal
 
 pub returns : goal.returns

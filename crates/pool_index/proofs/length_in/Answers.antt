@@ -4,7 +4,6 @@ use lib.Dec.{lit<}
 use Rattle.pool_index.specs.Strings.{length_in, length_base}
 use Prim.Native.Nat.{ℕ, ◌%◌}
 use mathlib.Core.Path.{ap}
-use borrow.Author.Rules.{rules}
 use Rattle.pool_index.proofs.length_in.Goals as goal
 
 pub returns : goal.returns

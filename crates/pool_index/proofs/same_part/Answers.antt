@@ -1,7 +1,6 @@
 -- `pool_index::same_part` meets its contract: parts at one place are the same.
 use mathlib.Core.Path.{ap₂, sym, ◌∙◌}
 use Prim.Native.Nat.{ℕ}
-use borrow.Author.Rules.{rules}
 use Rattle.slices.specs.Laws.Same.{same_refl}
 use Rattle.slices.specs.Same.{same}
 use Rattle.pool_index.specs.Strings.{bytes_at}

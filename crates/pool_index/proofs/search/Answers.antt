@@ -1,10 +1,6 @@
 -- `pool_index::search` meets its contract: the entries passed are not what is sought.
 use mathlib.Core.Path.{sym, ◌∙◌}
-use Prim.Native.Nat.{◌-◌, ◌/◌}
-use lib.ListN.{length}
-use borrow.Author.Rules.{rules}
-use Rattle.pool_index.specs.Laws.Strings.{Sought, sought_start, sought_next, sought_hit, sought_end}
-use Rattle.pool_index.specs.Strings.{bytes_at}
+use Rattle.pool_index.specs.Laws.Strings.{sought_start, sought_next, sought_hit, sought_end}
 use Rattle.pool_index.proofs.search.Goals as goal
 
 pub loop-k-init : goal.loop-k-init

@@ -1,8 +1,6 @@
-use mathlib.Core.Path.{sym, ◌∙◌}
 use Prim.Native.Nat.{◌-◌, ◌/◌}
 use lib.ListN.{length}
-use borrow.Author.Rules.{rules}
-use Rattle.pool_index.specs.Laws.Strings.{Sought, sought_start, sought_next, sought_hit, sought_end}
+use Rattle.pool_index.specs.Laws.Strings.{Sought}
 use Rattle.pool_index.specs.Strings.{bytes_at}
 use Rattle.pool_index.proofs.search.Given as goal
 

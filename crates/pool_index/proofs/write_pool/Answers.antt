@@ -1,16 +1,11 @@
 -- `pool_index::write_pool` meets its contract: what is left to write is the strings of the entries left.
 use mathlib.Core.Path.{ap₂}
 use Rattle.varint.specs.Uleb128.{uleb128}
-use Rattle.payload.specs.Writing.{write_strings}
-use Rattle.emit.specs.Emit.{output, emit}
-use Rattle.emit.specs.Laws.Emit.{Emitting, emitting_start, emitting_ready, emitting_next, emitting_end, emitted_ready, emitted_then, emitted_as, emitted_long}
+use Rattle.emit.specs.Laws.Emit.{emitting_start, emitting_ready, emitting_next, emitting_end, emitted_ready, emitted_then, emitted_as, emitted_long}
 use Rattle.pool_index.specs.Laws.Strings.{length_strings, write_next, write_end}
-use Rattle.pool_index.specs.Strings.{bytes_at, pool_strings, write_pool}
-use Prim.Native.Nat.{◌-◌, ◌*◌, ◌/◌}
+use Rattle.pool_index.specs.Strings.{bytes_at, write_pool}
 use mathlib.Core.Path.{refl, sym, ap, ◌∙◌}
 use native.Mathlib.Omega.{arith}
-use lib.ListN.{length, drop}
-use borrow.Author.Rules.{rules}
 use Rattle.pool_index.proofs.write_pool.Goals as goal
 
 pub loop-k-init : goal.loop-k-init

@@ -1,15 +1,9 @@
-use mathlib.Core.Path.{ap₂}
-use Rattle.varint.specs.Uleb128.{uleb128}
 use Rattle.payload.specs.Writing.{write_strings}
 use Rattle.emit.specs.Emit.{output, emit}
-use Rattle.emit.specs.Laws.Emit.{Emitting, emitting_start, emitting_ready, emitting_next, emitting_end, emitted_ready, emitted_then, emitted_as, emitted_long}
-use Rattle.pool_index.specs.Laws.Strings.{length_strings, write_next, write_end}
-use Rattle.pool_index.specs.Strings.{bytes_at, pool_strings, write_pool}
+use Rattle.emit.specs.Laws.Emit.{Emitting}
+use Rattle.pool_index.specs.Strings.{pool_strings}
 use Prim.Native.Nat.{◌-◌, ◌*◌, ◌/◌}
-use mathlib.Core.Path.{refl, sym, ap, ◌∙◌}
-use native.Mathlib.Omega.{arith}
 use lib.ListN.{length, drop}
-use borrow.Author.Rules.{rules}
 use Rattle.pool_index.proofs.write_pool.Given as goal
 
 abbrev pub invariant-loop-k : goal.invariant-loop-k

@@ -5,7 +5,7 @@ use Rattle.std.proofs.Common.{sym, ◌∙◌, arith}
 use Rattle.std.proofs.Math.Path.{ap}
 use Prim.Native.Nat.{ℕ, zero, suc, ◌*◌}
 use borrow.Author.Tests.{eq-eqb, ne_eqb}
-use Rattle.payload.specs.Laws.Keeps.{invert}
+use Rattle.payload.proofs.Laws.Keeps.{invert}
 use Rattle.payload.specs.Numbers.{varint}
 use Rattle.payload.specs.Reader.{Part, Reader, Result, State, ◌>>=◌, ◌>>◌, and_then, here, must, ok, pure, refused}
 use Rattle.payload.specs.Reading.{Context, node_key, read_items, read_keys, read_kids, read_many, read_one, read_pairs, read_shape, test_key}

@@ -3,8 +3,8 @@ use Rattle.std.specs.Prelude.{true, List, [], ◌∷◌, ◌≡◌, ℕ, ◌≤�
 use Rattle.std.proofs.Math.Path.{refl}
 use Rattle.std.proofs.Common.{zero-le}
 use Rattle.slices.specs.Laws.LittleEndian.{Bytes}
-use Rattle.payload.specs.Choice.{if◌then◌else◌}
-use Rattle.payload.specs.Laws.Kept.{kept_number}
+use Rattle.payload.specs.Choice.{when◌then◌else◌}
+use Rattle.payload.proofs.Laws.Kept.{kept_number}
 use Rattle.payload.specs.Numbers.{NumberKind, fits_kind, handle, i16, i32, i64, i8, read_number, u16, u32, u64}
 use Rattle.payload.specs.Shapes.{ItemKind, kinds_of, shape, shapes}
 use Rattle.payload.specs.Tables.{limits}
@@ -31,7 +31,7 @@ module _ {p : List ℕ} (small : Bytes p) where
   fits_scalar t k (Refused n q) e is h g = tt
 
   pub fits_cut : {at : ℕ} (cut : Cut) (r : Number) → at ≤ length p → Reads p at (read_number (kind_of cut)) (number_answer r) → FitsScalar (scalar_tag cut) r
-  unfolding shape shapes kinds_of kind_of is_scalar_tag if◌then◌else◌
+  unfolding shape shapes kinds_of kind_of is_scalar_tag when◌then◌else◌
   fits_cut I64 r = fits_scalar 1 i64 r refl refl
   fits_cut U64 r = fits_scalar 19 u64 r refl refl
   fits_cut I32 r = fits_scalar 20 i32 r refl refl
@@ -42,5 +42,5 @@ module _ {p : List ℕ} (small : Bytes p) where
 
   pub fits_handle : {at mid next kind id : ℕ} → at ≤ length p → Reads p at (read_number handle) (read kind mid) → Reads p mid (read_number u64) (read id next)
       → row_of (const_of 26 kind id) ≡ row 26 kind id
-  unfolding shape shapes kinds_of is_scalar_tag if◌then◌else◌
+  unfolding shape shapes kinds_of is_scalar_tag when◌then◌else◌
   fits_handle {kind = kind} {id} h f g = scalar_row 26 kind id refl (read_fits handle h f, (read_fits u64 f.inside g, tt))

@@ -1,7 +1,7 @@
 -- Numbers of each kind, from the varint, the byte or the body that they are read from.
 use Rattle.std.specs.Prelude.{Bool, true, false, List, ◌≡◌, ℕ, ◌+◌, ◌%◌, ◌≤◌, ◌<◌, eqb, drop, length, take}
 use Rattle.slices.specs.LittleEndian.{from_le_bytes}
-use Rattle.payload.specs.Choice.{if◌then◌else◌}
+use Rattle.payload.specs.Choice.{when◌then◌else◌}
 use Rattle.payload.specs.Numbers.{varint, read_number, bool, cut_to, cut_tested, cut_to_signed, read_float}
 use Rattle.payload.specs.Reader.{byte}
 use Rattle.read_items.specs.Reads.{read, stopped, Reads}
@@ -53,7 +53,7 @@ module _ {p : List ℕ} {at : ℕ} where
     unfolding cut_tested
     reads_tested_stop m test k = reads_here _ (reads_stop _ (reads_cut_to_stop m))
 
-  pub reads_bool : {b next : ℕ} → Reads p at byte (read b next) → Reads p at (read_number bool) (read (if eqb b 0 then 0 else 1) next)
+  pub reads_bool : {b next : ℕ} → Reads p at byte (read b next) → Reads p at (read_number bool) (read (when eqb b 0 then 0 else 1) next)
   unfolding read_number
   reads_bool g = reads_then _ g (reads_pure _ g.inside)
 

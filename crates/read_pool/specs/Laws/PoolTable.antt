@@ -3,7 +3,7 @@ use Rattle.std.specs.Prelude.{List, [], ◌∷◌, ◌++◌, ◌≡◌, refl, �
 use Rattle.std.proofs.Common.{sym, ap, ◌∙◌, arith}
 use Rattle.slices.specs.Put.{put}
 use Rattle.slices.specs.Laws.Put.{put_put, put_last, put_cons, run_put}
-use Rattle.payload.specs.Laws.ScanWritten.{InStore}
+use Rattle.payload.proofs.Laws.ScanWritten.{InStore}
 use Rattle.payload.specs.Laws.Tables.{length_parts_words}
 use Rattle.payload.specs.Reader.{Part}
 use Rattle.payload.specs.Rows.{part_words}

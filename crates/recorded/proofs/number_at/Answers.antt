@@ -3,7 +3,6 @@ use mathlib.Core.Path.{◌≡◌, ◌∙◌}
 use native.Mathlib.Omega.{arith}
 use Prim.Native.Nat.{◌≤◌}
 use lib.ListN.{length, take, drop, length-take}
-use borrow.Author.Rules.{rules}
 use Rattle.slices.specs.LittleEndian.{from_le_bytes}
 use Rattle.slices.specs.Laws.LittleEndian.{Bytes}
 use Rattle.recorded.specs.Laws.Recorded.{number_in_word, number_small}

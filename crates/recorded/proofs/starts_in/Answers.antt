@@ -1,9 +1,6 @@
 -- `starts_in` meets its contract: at each turn the first i numbers are put in.
 use native.Mathlib.Omega.{arith}
-use Prim.Native.Nat.{◌-◌}
-use lib.ListN.{length}
-use borrow.Author.Rules.{rules}
-use Rattle.recorded.specs.Laws.Recorded.{PutIn, put_start, put_next, put_end}
+use Rattle.recorded.specs.Laws.Recorded.{put_start, put_next, put_end}
 use Rattle.recorded.proofs.starts_in.Goals as goal
 
 pub loop-i-init : goal.loop-i-init

@@ -1,8 +1,6 @@
-use native.Mathlib.Omega.{arith}
 use Prim.Native.Nat.{◌-◌}
 use lib.ListN.{length}
-use borrow.Author.Rules.{rules}
-use Rattle.recorded.specs.Laws.Recorded.{PutIn, put_start, put_next, put_end}
+use Rattle.recorded.specs.Laws.Recorded.{PutIn}
 use Rattle.recorded.proofs.words_in.Given as goal
 
 abbrev pub invariant-loop-i : goal.invariant-loop-i

@@ -1,7 +1,6 @@
 -- `row_layout::digit` meets its contract: each branch shifts the word that has the entry. Assumes nothing.
 use mathlib.Core.Path.{sym}
 use native.Mathlib.Omega.{arith}
-use borrow.Author.Rules.{rules}
 use Rattle.row_layout.specs.Laws.Digits.{entry_low, entry_middle, entry_high, entry_none}
 use Rattle.row_layout.proofs.digit.Goals as goal
 

@@ -1,7 +1,6 @@
 -- `row_layout::second_form` meets its contract: the digits agree with the shapes at each of the 35 entries, which antt computes. Assumes nothing.
 use mathlib.Core.Path.{ap}
-use borrow.Author.Rules.{rules}
-use Rattle.payload.specs.Choice.{if◌then◌else◌}
+use Rattle.payload.specs.Choice.{when◌then◌else◌}
 use Rattle.payload.specs.Shapes.{Shape, shape, shapes, kinds_of}
 use Rattle.row_layout.specs.Digits.{digits, entries}
 use Rattle.row_layout.specs.Laws.Layout.{shape_min}
@@ -11,5 +10,5 @@ use Rattle.row_layout.proofs.second_form.Goals as goal
 
 pub returns : goal.returns
 returns c =
-    agrees second_form _ _ _ _ _ c.digit.ensures (unfold entries digits second_form shape shapes kinds_of number_form item_form second_of if◌then◌else◌ in tt)
+    agrees second_form _ _ _ _ _ c.digit.ensures (unfold entries digits second_form shape shapes kinds_of number_form item_form second_of when◌then◌else◌ in tt)
     (unfold second_form in (ap (λ (s : Shape). second_of (kinds_of s)) (shape_min c.args.tag)))

@@ -1,7 +1,6 @@
 -- `row_layout::under_form` meets its contract: the digits agree with the shapes at each of the 35 entries, which antt computes. Assumes nothing.
 use mathlib.Core.Path.{ap}
-use borrow.Author.Rules.{rules}
-use Rattle.payload.specs.Choice.{if◌then◌else◌}
+use Rattle.payload.specs.Choice.{when◌then◌else◌}
 use Rattle.payload.specs.Shapes.{Shape, shape, shapes}
 use Rattle.row_layout.specs.Digits.{digits, entries}
 use Rattle.row_layout.specs.Laws.Layout.{shape_min}
@@ -11,5 +10,5 @@ use Rattle.row_layout.proofs.under_form.Goals as goal
 
 pub returns : goal.returns
 returns c =
-    agrees under_form _ _ _ _ _ c.digit.ensures (unfold entries digits under_form shape shapes kids_form shape_form if◌then◌else◌ in tt)
+    agrees under_form _ _ _ _ _ c.digit.ensures (unfold entries digits under_form shape shapes kids_form shape_form when◌then◌else◌ in tt)
     (unfold under_form in (ap (λ (s : Shape). shape_form s) (shape_min c.args.tag)))

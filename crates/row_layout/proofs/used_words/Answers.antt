@@ -2,8 +2,7 @@
 use mathlib.Core.Path.{ap}
 use Prim.Native.Nat.{suc, ◌+◌}
 use lib.ListN.{length}
-use borrow.Author.Rules.{rules}
-use Rattle.payload.specs.Choice.{if◌then◌else◌}
+use Rattle.payload.specs.Choice.{when◌then◌else◌}
 use Rattle.payload.specs.Rows.{kind_width, kinds_width, count_words, kids_count_words}
 use Rattle.payload.specs.Shapes.{Shape, shape, shapes, kinds_of}
 use Rattle.row_layout.specs.Digits.{digits, entries}
@@ -15,5 +14,5 @@ use Rattle.row_layout.proofs.used_words.Goals as goal
 pub returns : goal.returns
 returns c =
     agrees used_words _ _ _ _ _ c.digit.ensures
-    (unfold entries digits used_words shape shapes kinds_of kind_width kinds_width count_words kids_count_words if◌then◌else◌ in tt)
+    (unfold entries digits used_words shape shapes kinds_of kind_width kinds_width count_words kids_count_words when◌then◌else◌ in tt)
     (unfold used_words in (ap (λ (s : Shape). suc (kinds_width (kinds_of s) + length (count_words s 0))) (shape_min c.args.tag)))

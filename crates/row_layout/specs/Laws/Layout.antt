@@ -3,14 +3,14 @@ use Rattle.std.specs.Prelude.{Bool, true, false, List, [], ◌∷◌, ◌≡◌,
 use Rattle.std.proofs.Math.Path.{refl}
 use Rattle.std.proofs.Common.{sym, ap, ◌∙◌, add-zero, zero-add, arith, leb-true, leb-false, ltb-true, ltb-false, eqb-true, ne_eqb}
 use Rattle.std.proofs.Math.ListN.{get_or-eq_default}
-use Rattle.payload.specs.Choice.{if◌then◌else◌, ◌and◌}
+use Rattle.payload.specs.Choice.{when◌then◌else◌, ◌and◌}
 use Rattle.payload.specs.Laws.Pool.{and_left, and_right}
 use Rattle.payload.specs.Rows.{kind_width}
 use Rattle.payload.specs.Shapes.{ItemKind, Shape, no_value, one_value, values, with_kids, shape, shapes, kinds_of}
 use Rattle.row_layout.specs.Layout.{number_form, item_form, first_of, second_of, after_first, kids_form, shape_form, first_form, second_form, second_word, under_form}
 
 pub shape_high : (t : ℕ) → 33 < t → shape t ≡ with_kids [] no_value
-unfolding shape if◌then◌else◌
+unfolding shape when◌then◌else◌
 shape_high t h = rw (ne_eqb t 32 (λ e. omega arith), ne_eqb t 33 (λ e. omega arith)) (get_or-eq_default shapes (with_kids [] no_value) {n = t} (few t h))
   where
     few : (t : ℕ) → 33 < t → length shapes ≤ t
@@ -36,7 +36,7 @@ all_at f (sh ∷ l) k (suc t) e h = let z : suc k + t ≡ k + suc t = omega arit
 
 pub shape_all : (f : ℕ → Shape → Bool) → all_from f 0 shapes ≡ true → f 32 (with_kids (ItemKind.code ∷ []) values) ≡ true → f 33 (with_kids (ItemKind.string ∷ []) one_value) ≡ true
     → ((t : ℕ) → 26 < t → f t (with_kids [] no_value) ≡ true) → (t : ℕ) → f t (shape t) ≡ true
-unfolding shape if◌then◌else◌
+unfolding shape when◌then◌else◌
 shape_all f a b c d t = go (eqb t 32) refl (eqb t 33) refl (ltb t 27) refl
   where
     many : length shapes ≡ 27
@@ -70,14 +70,14 @@ second_word_low t = after_first_low _
 ---- where code can stand: only as the first item of a row with rows under it
 
 no_code : ℕ → Shape → Bool
-no_code t sh = (if eqb (shape_form sh) 0 then ltb (first_of (kinds_of sh)) 7 else true) and ltb (second_of (kinds_of sh)) 7
+no_code t sh = (when eqb (shape_form sh) 0 then ltb (first_of (kinds_of sh)) 7 else true) and ltb (second_of (kinds_of sh)) 7
 
 no_code_lem : (t : ℕ) → no_code t (shape t) ≡ true
-unfolding no_code all_from shapes kinds_of number_form item_form first_of second_of kids_form shape_form if◌then◌else◌ ◌and◌
+unfolding no_code all_from shapes kinds_of number_form item_form first_of second_of kids_form shape_form when◌then◌else◌ ◌and◌
 no_code_lem t = shape_all no_code refl refl refl (λ k h. refl) t
 
 pub leaf_form_low : (t : ℕ) → under_form t ≡ 0 → first_form t < 7
-unfolding no_code under_form first_form if◌then◌else◌
+unfolding no_code under_form first_form when◌then◌else◌
 leaf_form_low t h = ltb-true (first_of (kinds_of (shape t))) 7 (rw h at (and_left _ _ (no_code_lem t)))
 
 pub second_form_low : (t : ℕ) → second_form t < 7

@@ -4,7 +4,7 @@ use Rattle.std.proofs.Common.{◌∙◌, ap, ap₂, sym, arith, length-append, l
 use Rattle.std.proofs.lemmas.List.{length-replicate}
 use Rattle.slices.specs.Zeros.{pad_to}
 use Rattle.payload.specs.Answers.{read_fields}
-use Rattle.payload.specs.Choice.{if◌then◌else◌}
+use Rattle.payload.specs.Choice.{when◌then◌else◌}
 use Rattle.payload.specs.Reader.{Result, ok, refused}
 use Rattle.payload.specs.Reading.{Payload}
 use Rattle.payload.specs.Rows.{row_width}
@@ -38,11 +38,11 @@ listed_rows_lem {x} {rows} {r = r} l kept =
 -- a payload that is read
 pub listed_read : (bytes : List ℕ) {rows spans starts pool rows' spans' starts' pool' : List ℕ} {r : Read} → length bytes ≤ listed_limit
     → Leaves (table_reading bytes) rows spans starts pool rows' spans' starts' pool' r → listing r rows' ≡ listed bytes
-unfolding listed if◌then◌else◌
+unfolding listed when◌then◌else◌
 listed_read bytes {rows} h l = rw (le-ltb listed_limit (length bytes) h)
     (ap₂ listing l.answer l.rows_are ∙ listing_padded (read_answer (table_reading bytes)) (used_rows (table_reading bytes)) (length rows))
 
 -- one that is too long
 pub listed_long : (bytes rows : List ℕ) → listed_limit < length bytes → listing (Refused 16 0) rows ≡ listed bytes
-unfolding listed if◌then◌else◌ listing listed_rows row_lines
+unfolding listed when◌then◌else◌ listing listed_rows row_lines
 listed_long bytes rows h = rw (lt-ltb listed_limit (length bytes) h)

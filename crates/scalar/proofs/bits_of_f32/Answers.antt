@@ -1,7 +1,6 @@
 -- `scalar::bits_of_f32` meets its contract. Assumes nothing.
 use mathlib.Core.Path.{ap, sym}
 use lib.Ieee.{to_bits, binary32}
-use borrow.Author.Rules.{rules}
 use Rattle.scalar.proofs.Nan.{no_nan, is_nan_lem}
 use Rattle.scalar.proofs.bits_of_f32.Goals as goal
 

@@ -1,7 +1,6 @@
 -- `scalar::const_of` meets its contract. Assumes nothing.
 use mathlib.Core.Path.{◌≡◌, refl, ap, sym, ◌∙◌}
 use Prim.Native.Nat.{ℕ}
-use borrow.Author.Rules.{rules}
 use borrow.Author.Tests.{ne_eqb}
 use lib.Dec.{lit≤}
 use lib.IntN.{ℤ}

@@ -1,6 +1,5 @@
 -- `scalar::row_of` meets its contract. Assumes nothing.
 use mathlib.Core.Path.{◌≡◌, ap, sym, ◌∙◌}
-use borrow.Author.Rules.{rules}
 use Rattle.scalar.specs.declared.Constant.{Constant}
 use Rattle.scalar.specs.Scalar.{row_of}
 use Rattle.scalar.proofs.row_of.Goals.{Start}

@@ -1,6 +1,5 @@
 -- `scalar::through_row` meets its contract. Assumes nothing.
 use mathlib.Core.Path.{ap, ◌∙◌}
-use borrow.Author.Rules.{rules}
 use Rattle.scalar.specs.Scalar.{row_of}
 use Rattle.scalar.proofs.through_row.Goals as goal
 

@@ -6,8 +6,8 @@ use Rattle.std.specs.Float.Ieee.{nan_bits, of_bits, to_bits, top}
 use Rattle.std.specs.Float.Ieee.Bits.{nan_bits_is, to_bits-of_bits}
 use Rattle.std.proofs.lemmas.Bool.{eqb-false}
 use Rattle.signed.specs.Laws.Signed.{word_signed}
-use Rattle.payload.specs.Choice.{if◌then◌else◌}
-use Rattle.payload.specs.Laws.Numbers.{scalar_small}
+use Rattle.payload.specs.Choice.{when◌then◌else◌}
+use Rattle.payload.proofs.Laws.Numbers.{scalar_small}
 use Rattle.payload.specs.Numbers.{NumberKind, cut_signed, fits_kind, fits_signed}
 use Rattle.payload.specs.Shapes.{ItemKind, kinds_of, shape, shapes}
 use Rattle.scalar.specs.declared.Scalar.{Scalar}
@@ -74,7 +74,7 @@ small : (m a : ℕ) → ltb a m ≡ true → a % m ≡ a
 small m a e = mod-eq_of_lt (ltb-true a m e)
 
 pub scalar_row : (t a b : ℕ) → is_scalar_tag t ≡ true → FitsWords (kinds_of (shape t)) (a ∷ b ∷ []) → row_of (const_of t a b) ≡ row t a b
-unfolding shape shapes kinds_of if◌then◌else◌ fits_kind row_of words_of const_of
+unfolding shape shapes kinds_of when◌then◌else◌ fits_kind row_of words_of const_of
 scalar_row t a b = each_scalar_tag (λ t. FitsWords (kinds_of (shape t)) (a ∷ b ∷ []) → row_of (const_of t a b) ≡ row t a b)
     (λ h. one_word 0 (sym h.0) h.1.0)
     (λ h. one_word 1 (word_signed a (ltb-true a (2 ^ 64) h.0)) h.1.0)

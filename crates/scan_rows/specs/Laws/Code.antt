@@ -6,12 +6,12 @@ use Rattle.std.proofs.Common.{◌∙◌, ap, ap₂, sym, add_comm, add-zero, zer
 use Rattle.std.proofs.Math.Path.{refl}
 use Prim.Native.Nat.{◌*◌, ◌+◌, ◌-◌, ◌<◌, ◌≤◌, suc, ℕ}
 use Rattle.std.proofs.lemmas.Bool.{eqb-false}
-use Rattle.payload.specs.Choice.{◌and◌, if◌then◌else◌}
+use Rattle.payload.specs.Choice.{◌and◌, when◌then◌else◌}
 use Rattle.payload.specs.Laws.Pool.{and_both, and_left, and_right, false≢true}
-use Rattle.payload.specs.Laws.RoundTrip.{same_kind_eq}
+use Rattle.payload.proofs.Laws.RoundTrip.{same_kind_eq}
 use Rattle.payload.specs.Laws.Rules.{obey_rules, same_kind, same_kinds}
-use Rattle.payload.specs.Laws.SoundTables.{Kinded, kinded, row_table_width, row_width_lem}
-use Rattle.payload.specs.Laws.Takes.{scan_took}
+use Rattle.payload.proofs.Laws.SoundTables.{Kinded, kinded, row_table_width, row_width_lem}
+use Rattle.payload.proofs.Laws.Takes.{scan_took}
 use Rattle.payload.specs.Reader.{Part, State, ok, start}
 use Rattle.payload.specs.Rows.{item_words, items_words, part_words, root_count, row_table, row_width, row_words}
 use Rattle.payload.specs.Scan.{scan_outer}
@@ -20,7 +20,6 @@ use Rattle.payload.specs.Sound.{is_nil}
 use Rattle.payload.specs.Spans.{Span}
 use Rattle.payload.specs.Trees.{Item, Node, Trees, code, forget_item, forget_items, forget_trees, kind_of, native_name, nil, node, number, record_name, single, size, span_count, span_item, span_items, string}
 use Rattle.row_layout.specs.Laws.Layout.{all_from, shape_all}
-use Rattle.utf8.specs.Utf8.{one}
 use Rattle.scan_rows.specs.Code.{code_at, code_total}
 use Rattle.scan_rows.specs.Row.{row_count}
 
@@ -82,15 +81,15 @@ chunk_items (code l ss ∷ i ∷ is) e = false≢true (and_right (same_kind Item
 
 -- the code of a row, by its words
 code_of : List ℕ → ℕ
-code_of ws = if◌then◌else◌ (eqb (get_or ws 0 0) 32) (get_or ws 2 0) 0
+code_of ws = when◌then◌else◌ (eqb (get_or ws 0 0) 32) (get_or ws 2 0) 0
 
 row_code : (t : ℕ) (is : List (Item Part)) (n : ℕ) (ws : List ℕ) → same_kinds (kinds_of (shape t)) (forget_items is) ≡ true → code_of (row_words t is n ++ ws) ≡ span_items (forget_items is)
-unfolding code_of row_words if◌then◌else◌
+unfolding code_of row_words when◌then◌else◌
 row_code t is n ws e = go (eqb t 32) refl
   where
-    go : (b : Bool) → eqb t 32 ≡ b → if◌then◌else◌ b (get_or (row_words t is n ++ ws) 2 0) 0 ≡ span_items (forget_items is)
+    go : (b : Bool) → eqb t 32 ≡ b → when◌then◌else◌ b (get_or (row_words t is n ++ ws) 2 0) 0 ≡ span_items (forget_items is)
     go false q = sym (no_spans (kinds_of (shape t)) is e (code_only t (eqb-false t 32 q)))
-    go true q = let f = rw (eqb-true t 32 q) at e in let c = chunk_items is (unfold shape kinds_of if◌then◌else◌ in f) in rw c.2 (unfold items_words item_words part_words forget_items forget_item span_items span_item in (sym (add-zero _)))
+    go true q = let f = rw (eqb-true t 32 q) at e in let c = chunk_items is (unfold shape kinds_of when◌then◌else◌ in f) in rw c.2 (unfold items_words item_words part_words forget_items forget_item span_items span_item in (sym (add-zero _)))
 
 code_total_lem : (ts : Trees Part) (m : ℕ) (ws : List ℕ) → Kinded (forget_trees ts) → code_total (size ts + m) (row_table ts ++ ws) ≡ span_count (forget_trees ts) + code_total m ws
 unfolding size row_table span_count forget_trees Kinded

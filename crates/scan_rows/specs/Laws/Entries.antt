@@ -2,12 +2,11 @@
 use Rattle.std.specs.Prelude.{Bool, ◌*◌, ◌+◌, ◌-◌, ◌<◌, ◌≤◌, suc, zero, ℕ, length}
 use Rattle.std.proofs.Math.Bool.{false, not, true}
 use mathlib.Core.List.{List, [], ◌++◌, ◌∷◌}
-use Rattle.std.proofs.Math.Option.{none}
 use Rattle.std.proofs.Common.{◌∙◌, ap, mul-suc, add-one, arith}
 use Rattle.std.proofs.Math.Path.{◌≡◌, refl, sym}
 use Rattle.std.proofs.Math.Dec.{eqb, leb, ltb}
 use borrow.Author.Tests.{eqb-false, eqb-true, le-leb, lt-leb, ltb-false, ltb-true, ne_eqb}
-use Rattle.payload.specs.Choice.{◌and◌, ◌or◌, if◌then◌else◌}
+use Rattle.payload.specs.Choice.{◌and◌, ◌or◌, when◌then◌else◌}
 use Rattle.payload.specs.Laws.Pool.{and_both, and_left, and_right, false≢true}
 use Rattle.payload.specs.Pool.{is_in}
 use Rattle.payload.specs.Reader.{Part, Result, State, ◌>>=◌, and_then, ok, pure, refused}
@@ -18,7 +17,6 @@ use Rattle.payload.specs.Shapes.{Shape, is_key_tag, keys, no_value, one_value, p
 use Rattle.payload.specs.Trees.{Node, Trees, cons, forget_items, nil, node_of}
 use Rattle.row_layout.specs.Laws.Layout.{all_from, shape_all}
 use Rattle.slices.specs.Same.{same}
-use Rattle.utf8.specs.Utf8.{more, one}
 use Rattle.scan_rows.specs.Found.{Scanned}
 use Rattle.scan_rows.specs.Laws.Found.{Sofar, sofar_bad, sofar_end, sofar_none, sofar_then}
 use Rattle.scan_rows.specs.Laws.Keys.{key_in, key_row_fits, key_tagged}
@@ -41,15 +39,15 @@ leaf_shape (with_fields ks) = false
 leaf_shape (with_template ks) = false
 
 key_leaf : (t : ℕ) → is_key_tag t ≡ true → (leaf_shape (shape t) ≡ true) × (leb t 26 ≡ true)
-unfolding if◌then◌else◌
+unfolding when◌then◌else◌
 key_leaf t e =
-    let g = go (shape_all (λ t sh. if◌then◌else◌ (is_key_tag t) (leaf_shape sh and leb t 26) true) (unfold all_from shapes leaf_shape is_key_tag ◌and◌ in refl) (unfold is_key_tag ◌and◌ in refl) (unfold is_key_tag ◌and◌ in refl) high t) in
+    let g = go (shape_all (λ t sh. when◌then◌else◌ (is_key_tag t) (leaf_shape sh and leb t 26) true) (unfold all_from shapes leaf_shape is_key_tag ◌and◌ in refl) (unfold is_key_tag ◌and◌ in refl) (unfold is_key_tag ◌and◌ in refl) high t) in
     (and_left _ _ g, and_right _ _ g)
   where
-    high : (t : ℕ) → 26 < t → if◌then◌else◌ (is_key_tag t) (leaf_shape (with_kids [] no_value) and leb t 26) true ≡ true
+    high : (t : ℕ) → 26 < t → when◌then◌else◌ (is_key_tag t) (leaf_shape (with_kids [] no_value) and leb t 26) true ≡ true
     high t h = unfold is_key_tag ◌and◌ in (rw (ne_eqb t 1 (λ e. omega arith), lt-leb t 6 (omega arith), lt-leb t 24 (omega arith), le-leb 3 t (omega arith), le-leb 19 t (omega arith)))
 
-    go : if◌then◌else◌ (is_key_tag t) (leaf_shape (shape t) and leb t 26) true ≡ true → (leaf_shape (shape t) and leb t 26) ≡ true
+    go : when◌then◌else◌ (is_key_tag t) (leaf_shape (shape t) and leb t 26) true ≡ true → (leaf_shape (shape t) and leb t 26) ≡ true
     go q = rw e at q
 
 leaf_none : (store : List ℕ) (r : RowScan) (sh : Shape) (n : ℕ) → leaf_shape sh ≡ true → (scan_under store r sh n ≡ pure nil) × (shape_under sh n ≡ 0)
@@ -114,10 +112,10 @@ module _ (R : RowScan) (m : ℕ) (seen : List (List ℕ)) (s : State) where
       one = unfold scan_pairs ◌>>=◌ and_then in (rw (e, f))
 
   key_stops : (width : ℕ) {n p : ℕ} → R (new_key seen) s ≡ refused n p → scan_entries width (suc m) seen R s ≡ refused n p
-  unfolding scan_keys scan_pairs ◌>>=◌ and_then if◌then◌else◌
+  unfolding scan_keys scan_pairs ◌>>=◌ and_then when◌then◌else◌
   key_stops width {n} {p} e = go (eqb width 1)
     where
-      go : (b : Bool) → if◌then◌else◌ b (scan_keys (suc m) seen R) (scan_pairs (suc m) seen R) s ≡ refused n p
+      go : (b : Bool) → when◌then◌else◌ b (scan_keys (suc m) seen R) (scan_pairs (suc m) seen R) s ≡ refused n p
       go true = rw e
       go false = rw e
 
@@ -136,22 +134,22 @@ module _ (store rows : List ℕ) (width d m at : ℕ) (seen : List (List ℕ)) (
   -- a key that is allowed and new, and then the value of a map's entry
   pub entry_leads : {j : ℕ} (ts : Trees Part) → read_many (width - 1) (scan_value store (suc d) any_row) (at_row rows (at + 1)) ≡ ok ts (at_row rows j)
       → Leads (scan_entries width (suc m) seen (scan_value store (suc d)) (at_row rows at)) (scan_entries width m (row_key store rows at ∷ seen) (scan_value store (suc d)) (at_row rows j))
-  unfolding if◌then◌else◌
+  unfolding when◌then◌else◌
   entry_leads {j} ts e = go (eqb width 1) refl
     where
-      go : (b : Bool) → eqb width 1 ≡ b → Leads (if◌then◌else◌ b (scan_keys (suc m) seen (scan_value store (suc d))) (scan_pairs (suc m) seen (scan_value store (suc d))) (at_row rows at))
-          (if◌then◌else◌ b (scan_keys m (row_key store rows at ∷ seen) (scan_value store (suc d))) (scan_pairs m (row_key store rows at ∷ seen) (scan_value store (suc d))) (at_row rows j))
+      go : (b : Bool) → eqb width 1 ≡ b → Leads (when◌then◌else◌ b (scan_keys (suc m) seen (scan_value store (suc d))) (scan_pairs (suc m) seen (scan_value store (suc d))) (at_row rows at))
+          (when◌then◌else◌ b (scan_keys m (row_key store rows at ∷ seen) (scan_value store (suc d))) (scan_pairs m (row_key store rows at ∷ seen) (scan_value store (suc d))) (at_row rows j))
       go true q = rw (← (set_entry (eqb-true width 1 q) e), ← (key_of_node store rows at)) (keys_step (scan_value store (suc d)) m seen (at_row rows at) (key_node store rows at) (key_scanned store rows at d seen f n))
       go false q = let v = map_entry (eqb-false width 1 q) e in rw (← (key_of_node store rows at)) (pairs_step (scan_value store (suc d)) m seen (at_row rows at) (key_node store rows at) v.0 (key_scanned store rows at d seen f n) v.1)
 
   pub entry_value_bad : {p : ℕ} → read_many (width - 1) (scan_value store (suc d) any_row) (at_row rows (at + 1)) ≡ refused 17 p → scan_entries width (suc m) seen (scan_value store (suc d)) (at_row rows at) ≡ refused 17 p
-  unfolding if◌then◌else◌
+  unfolding when◌then◌else◌
   entry_value_bad {p} e = go (eqb width 1) refl
     where
       none : width ≡ 1 → ⊥
       none z = unfold read_many pure in (let g : ◌≡◌ {A = Result (Trees Part)} (ok nil (at_row rows (at + 1))) (refused 17 p) = rw z at e in let q : ◌≡◌ {A = ℕ} 0 1 = cc in absurd (omega arith))
 
-      go : (b : Bool) → eqb width 1 ≡ b → if◌then◌else◌ b (scan_keys (suc m) seen (scan_value store (suc d))) (scan_pairs (suc m) seen (scan_value store (suc d))) (at_row rows at) ≡ refused 17 p
+      go : (b : Bool) → eqb width 1 ≡ b → when◌then◌else◌ b (scan_keys (suc m) seen (scan_value store (suc d))) (scan_pairs (suc m) seen (scan_value store (suc d))) (at_row rows at) ≡ refused 17 p
       go true q = absurd (none (eqb-true width 1 q))
       go false q =
           let k = eqb-false width 1 q in
@@ -241,6 +239,6 @@ module _ {store rows : List ℕ} {width n i k at : ℕ} where
       let f : width * k ≡ width * n = ap (λ (x : ℕ). width * x) e in
       rw f at (sofar_end nil s.sofar (no_entries (n - k) (omega arith) (eqb width 1)))
     where
-      no_entries : (m : ℕ) → m ≡ 0 → (b : Bool) → if◌then◌else◌ b (scan_keys m s.seen (scan_value store d)) (scan_pairs m s.seen (scan_value store d)) (at_row rows at) ≡ ok nil (at_row rows at)
-      no_entries m z true = unfold if◌then◌else◌ scan_keys pure in (rw z)
-      no_entries m z false = unfold if◌then◌else◌ scan_pairs pure in (rw z)
+      no_entries : (m : ℕ) → m ≡ 0 → (b : Bool) → when◌then◌else◌ b (scan_keys m s.seen (scan_value store d)) (scan_pairs m s.seen (scan_value store d)) (at_row rows at) ≡ ok nil (at_row rows at)
+      no_entries m z true = unfold when◌then◌else◌ scan_keys pure in (rw z)
+      no_entries m z false = unfold when◌then◌else◌ scan_pairs pure in (rw z)

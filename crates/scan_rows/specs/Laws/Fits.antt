@@ -7,7 +7,7 @@ use Prim.Native.Nat.{◌%◌, ◌+◌, ◌-◌, ◌<◌, ◌^◌, ◌≤◌, suc
 use native.Mathlib.Omega.{arith}
 use Rattle.std.proofs.Math.Dec.{eqb, leb, ltb}
 use borrow.Author.Tests.{eq-eqb, le-leb, leb-false, leb-true, lt-leb, lt-ltb, ltb-false, ltb-true, ne_eqb}
-use Rattle.payload.specs.Choice.{◌and◌, ◌or◌, if◌then◌else◌}
+use Rattle.payload.specs.Choice.{◌and◌, ◌or◌, when◌then◌else◌}
 use Rattle.payload.specs.Laws.Pool.{false≢true}
 use Rattle.payload.specs.Numbers.{NumberKind, bool, char, f32, f64, fits_kind, fits_signed, handle, i16, i32, i64, i8, is_scalar, u16, u32, u64, u8}
 use Rattle.payload.specs.Rows.{kind_width, kinds_width, row_width}
@@ -60,7 +60,7 @@ scalar_is false true c = refl
 scalar_is false false c = refl
 
 number_is : (k : NumberKind) (w : ℕ) → w < 2 ^ 64 → number_fits (number_test k) w ≡ fits_kind k w
-unfolding number_fits number_test fits_kind is_scalar if◌then◌else◌
+unfolding number_fits number_test fits_kind is_scalar when◌then◌else◌
 number_is u64 w h = sym (lt-ltb w (2 ^ 64) h)
 number_is u32 w h = refl
 number_is u16 w h = refl
@@ -92,7 +92,7 @@ number_test_low f64 = omega arith
 number_test_low f32 = omega arith
 
 item_is : (store : List ℕ) (k : ItemKind) (a b : ℕ) → a < 2 ^ 64 → words_fit store (item_test k) a b ≡ item_fits store k a b
-unfolding words_fit item_test item_fits if◌then◌else◌
+unfolding words_fit item_test item_fits when◌then◌else◌
 item_is store (ItemKind.number k) a b h = let l = number_test_low k in rw (ne_eqb (number_test k) 11 (λ e. omega arith), ne_eqb (number_test k) 12 (λ e. omega arith)) (number_is k a h)
 item_is store ItemKind.string a b h = refl
 item_is store ItemKind.native_name a b h = refl
@@ -103,7 +103,7 @@ few_kinds : (t : ℕ) → length (kinds_of (shape t)) ≤ 2
 few_kinds t = leb-true _ _ (shape_all (λ t sh. leb (length (kinds_of sh)) 2) (unfold all_from shapes kinds_of ◌and◌ in refl) (unfold kinds_of in refl) (unfold kinds_of in refl) (λ t h. unfold kinds_of in refl) t)
 
 no_test : (store : List ℕ) (a b : ℕ) → words_fit store 0 a b ≡ true
-unfolding words_fit number_fits if◌then◌else◌
+unfolding words_fit number_fits when◌then◌else◌
 no_test store a b = refl
 
 and_true : (a b : Bool) → (a and (b and true)) ≡ (a and b)
@@ -183,11 +183,11 @@ second_low t = leb-true _ _ (shape_all (λ t sh. leb (after_first (kinds_of sh))
 
 -- a row that has a count has it at word 4 at most
 pub count_low : (t : ℕ) → 2 ≤ under_rules t → count_word t ≤ 4
-unfolding under_rules count_word if◌then◌else◌
-count_low t h = leb-true _ _ (go (shape_all (λ t sh. if◌then◌else◌ (leb 2 (shape_rules sh)) (leb (1 + kinds_width (kinds_of sh)) 4) true) (unfold all_from shapes shape_rules kids_rules kinds_width kind_width kinds_of ◌and◌ in refl)
+unfolding under_rules count_word when◌then◌else◌
+count_low t h = leb-true _ _ (go (shape_all (λ t sh. when◌then◌else◌ (leb 2 (shape_rules sh)) (leb (1 + kinds_width (kinds_of sh)) 4) true) (unfold all_from shapes shape_rules kids_rules kinds_width kind_width kinds_of ◌and◌ in refl)
     (unfold shape_rules kids_rules kinds_width kind_width kinds_of in refl) (unfold shape_rules kids_rules kinds_width kind_width kinds_of in refl) (λ t h. unfold shape_rules kids_rules in refl) t))
   where
-    go : if◌then◌else◌ (leb 2 (shape_rules (shape t))) (leb (1 + kinds_width (kinds_of (shape t))) 4) true ≡ true → leb (1 + kinds_width (kinds_of (shape t))) 4 ≡ true
+    go : when◌then◌else◌ (leb 2 (shape_rules (shape t))) (leb (1 + kinds_width (kinds_of (shape t))) 4) true ≡ true → leb (1 + kinds_width (kinds_of (shape t))) 4 ≡ true
     go e = rw (le-leb 2 (shape_rules (shape t)) h) at e
 
 module _ (store rows : List ℕ) (i : ℕ) (u : i < row_count rows) {t : ℕ} (et : t ≡ tag_at rows i) where

@@ -7,7 +7,7 @@ use Rattle.std.proofs.Math.Path.{ap, refl, sym}
 use Rattle.std.proofs.Math.ListN.{length}
 use Rattle.std.proofs.Math.Seq.{length-take-le}
 use borrow.Author.Tests.{eq-eqb, le-leb, leb-true, lt-leb, ltb-true, ne_eqb}
-use Rattle.payload.specs.Choice.{◌and◌, if◌then◌else◌}
+use Rattle.payload.specs.Choice.{◌and◌, when◌then◌else◌}
 use Rattle.payload.specs.Laws.Pool.{and_left, and_right, false≢true}
 use Rattle.payload.specs.Pool.{is_in}
 use Rattle.payload.specs.Shapes.{ItemKind, Shape, is_key_tag, kinds_of, no_value, shape, shapes, with_chunk, with_fields, with_kids, with_template}
@@ -35,13 +35,13 @@ number_only (with_fields ks) = false
 number_only (with_template ks) = false
 
 key_number : (t : ℕ) → is_key_tag t ≡ true → (t ≡ 6 → ⊥) → number_only (shape t) ≡ true
-unfolding if◌then◌else◌
-key_number t e h = go (shape_all (λ t sh. if◌then◌else◌ (is_key_tag t) (eqb t 6 || number_only sh) true) (unfold all_from shapes number_only is_key_tag ◌and◌ in refl) (unfold is_key_tag ◌and◌ in refl) (unfold is_key_tag ◌and◌ in refl) high t)
+unfolding when◌then◌else◌
+key_number t e h = go (shape_all (λ t sh. when◌then◌else◌ (is_key_tag t) (eqb t 6 || number_only sh) true) (unfold all_from shapes number_only is_key_tag ◌and◌ in refl) (unfold is_key_tag ◌and◌ in refl) (unfold is_key_tag ◌and◌ in refl) high t)
   where
-    high : (t : ℕ) → 26 < t → if◌then◌else◌ (is_key_tag t) (eqb t 6 || number_only (with_kids [] no_value)) true ≡ true
+    high : (t : ℕ) → 26 < t → when◌then◌else◌ (is_key_tag t) (eqb t 6 || number_only (with_kids [] no_value)) true ≡ true
     high t h = unfold is_key_tag ◌and◌ in (rw (ne_eqb t 1 (λ e. omega arith), lt-leb t 6 (omega arith), lt-leb t 24 (omega arith), le-leb 3 t (omega arith), le-leb 19 t (omega arith)))
 
-    go : if◌then◌else◌ (is_key_tag t) (eqb t 6 || number_only (shape t)) true ≡ true → number_only (shape t) ≡ true
+    go : when◌then◌else◌ (is_key_tag t) (eqb t 6 || number_only (shape t)) true ≡ true → number_only (shape t) ≡ true
     go q = rw (e, ne_eqb t 6 h) at q
 
 number_key : (store rows : List ℕ) (i t : ℕ) (sh : Shape) → number_only sh ≡ true → key_of t (forget_items (items_of store rows i 1 (kinds_of sh))) ≡ t ∷ word_at rows i 1 ∷ []
@@ -76,7 +76,7 @@ module _ (store rows : List ℕ) (i : ℕ) (f : key_fits store rows i ≡ true) 
 
   -- a string that is a key lies in the store
   pub key_part : tag_at rows i ≡ 6 → word_at rows i 1 + word_at rows i 2 ≤ length store
-  unfolding row_fits shape shapes kinds_of if◌then◌else◌ items_fit item_fits part_is_utf8
+  unfolding row_fits shape shapes kinds_of when◌then◌else◌ items_fit item_fits part_is_utf8
   key_part e = let g = rw e at (and_left (items_fit store rows i 1 (kinds_of (shape (tag_at rows i)))) _ key_row_fits) in leb-true _ _ (both (leb (word_at rows i 1 + word_at rows i 2) (length store)) _ (and_left _ _ g))
     where
       both : (a b : Bool) → (a && b) ≡ true → a ≡ true
@@ -85,7 +85,7 @@ module _ (store rows : List ℕ) (i : ℕ) (f : key_fits store rows i ≡ true) 
 
 module _ (store rows : List ℕ) where
   string_key_is : (i : ℕ) → tag_at rows i ≡ 6 → row_key store rows i ≡ 6 ∷ take (word_at rows i 2) (drop (word_at rows i 1) store)
-  unfolding row_key shape shapes kinds_of if◌then◌else◌ items_of item_of forget_items forget_item key_of items_value item_value
+  unfolding row_key shape shapes kinds_of when◌then◌else◌ items_of item_of forget_items forget_item key_of items_value item_value
   string_key_is i e = rw e (ap (λ (l : List ℕ). 6 ∷ l) (append-nil _))
 
   pub tags_differ : (a b : ℕ) → (tag_at rows a ≡ tag_at rows b → ⊥) → same (row_key store rows b) (row_key store rows a) ≡ false

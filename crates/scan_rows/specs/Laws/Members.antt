@@ -6,7 +6,7 @@ use Rattle.std.proofs.Math.Path.{ap, refl, sym}
 use native.Mathlib.Omega.{arith}
 use Rattle.std.proofs.Math.Dec.{eqb}
 use borrow.Author.Tests.{eq-eqb, eqb-false, eqb-true, le-leb, lt-leb, ltb-true, ne_eqb}
-use Rattle.payload.specs.Choice.{◌and◌, if◌then◌else◌}
+use Rattle.payload.specs.Choice.{◌and◌, when◌then◌else◌}
 use Rattle.payload.specs.Laws.Pool.{and_left, and_right}
 use Rattle.payload.specs.Reader.{Part, Reader, ◌>>=◌, and_then, ok, pure}
 use Rattle.payload.specs.Reading.{read_many}
@@ -15,7 +15,6 @@ use Rattle.payload.specs.Scan.{RowScan, any_row, scan_kids, scan_untagged, scan_
 use Rattle.payload.specs.Shapes.{ItemKind, Kids, kinds_of, one_value, shape, values, with_kids}
 use Rattle.payload.specs.Trees.{Node, Trees, cons}
 use Rattle.row_layout.specs.Layout.{count_word}
-use Rattle.utf8.specs.Utf8.{one}
 use Rattle.scan_rows.specs.Found.{Scanned, WholeRows}
 use Rattle.scan_rows.specs.Laws.Found.{bad_of, found_by, next_of}
 use Rattle.scan_rows.specs.Laws.Row.{value_deep, value_past}
@@ -60,27 +59,27 @@ module _ (store rows : List ℕ) (b : WholeRows rows) (R : RowScan) (i : ℕ) wh
   head_tag t h = let a = and_left (ltb i (row_count rows) and eqb (tag_at rows i) t) (row_fits store rows i) h in (ltb-true _ _ (and_left _ _ a), eqb-true _ _ (and_right (ltb i (row_count rows)) _ a))
 
   shape_32 : shape 32 ≡ with_kids (ItemKind.code ∷ []) values
-  unfolding shape if◌then◌else◌
+  unfolding shape when◌then◌else◌
   shape_32 = refl
 
   shape_33 : shape 33 ≡ with_kids (ItemKind.string ∷ []) one_value
-  unfolding shape if◌then◌else◌
+  unfolding shape when◌then◌else◌
   shape_33 = refl
 
   pub untagged_unfit : {t m : ℕ} → 32 ≤ t → t ≤ 33 → head_fits store rows t i ≡ false → Scanned rows m i (Bad i) (scan_chunk_or_field store R t (at_row rows i))
-  unfolding if◌then◌else◌
+  unfolding when◌then◌else◌
   untagged_unfit {t} {m} l h f = go (eqb t 32) refl
     where
-      go : (x : Bool) → eqb t 32 ≡ x → Scanned rows m i (Bad i) (if◌then◌else◌ x (scan_chunk store R) (scan_field store R) (at_row rows i))
+      go : (x : Bool) → eqb t 32 ≡ x → Scanned rows m i (Bad i) (when◌then◌else◌ x (scan_chunk store R) (scan_field store R) (at_row rows i))
       go true q = record { found = untagged_bad store rows i R 32 (ItemKind.code ∷ []) values shape_32 b.whole (rw (eqb-true t 32 q) at f) }
       go false q = let k = eqb-false t 32 q in let e : t ≡ 33 = omega arith in record { found = untagged_bad store rows i R 33 (ItemKind.string ∷ []) one_value shape_33 b.whole (rw e at f) }
 
   under_32 : tag_at rows i ≡ 32 → (scan_under store R (shape (tag_at rows i)) (count_at rows i) ≡ read_many (word_at rows i 3) (R any_row)) × (rows_under rows i ≡ word_at rows i 3)
-  unfolding scan_under scan_kids rows_under shape_under kids_under shape count_word kinds_of kinds_width kind_width if◌then◌else◌
+  unfolding scan_under scan_kids rows_under shape_under kids_under shape count_word kinds_of kinds_width kind_width when◌then◌else◌
   under_32 e = (rw e, rw e)
 
   under_33 : tag_at rows i ≡ 33 → (scan_under store R (shape (tag_at rows i)) (count_at rows i) ≡ read_many 1 (R any_row)) × (rows_under rows i ≡ 1)
-  unfolding scan_under scan_kids rows_under shape_under kids_under shape if◌then◌else◌
+  unfolding scan_under scan_kids rows_under shape_under kids_under shape when◌then◌else◌
   under_33 e = (rw e, rw e)
 
   -- from the rows under it
@@ -93,7 +92,7 @@ module _ (store rows : List ℕ) (b : WholeRows rows) (R : RowScan) (i : ℕ) wh
 
   pub chunk_found : {t n : ℕ} {r : Scan} → t ≡ 32 → head_fits store rows t i ≡ true → n ≡ word_at rows i 3 → Scanned rows n (i + 1) r (read_many n (R any_row) (at_row rows (i + 1)))
       → Scanned rows 1 i r (scan_chunk_or_field store R t (at_row rows i))
-  unfolding if◌then◌else◌
+  unfolding when◌then◌else◌
   chunk_found {t} {n} {r} e f en s =
       let g : head_fits store rows 32 i ≡ true = rw e at f in
       let u = under_32 (head_tag 32 g).1 in
@@ -101,7 +100,7 @@ module _ (store rows : List ℕ) (b : WholeRows rows) (R : RowScan) (i : ℕ) wh
 
   pub field_found : {t : ℕ} {r : Scan} → 32 ≤ t → t ≤ 33 → (t ≡ 32 → ⊥) → head_fits store rows t i ≡ true → Scanned rows 1 (i + 1) r (read_many 1 (R any_row) (at_row rows (i + 1)))
       → Scanned rows 1 i r (scan_chunk_or_field store R t (at_row rows i))
-  unfolding if◌then◌else◌
+  unfolding when◌then◌else◌
   field_found {t} {r} l h ne f s =
       let e : t ≡ 33 = omega arith in
       let g : head_fits store rows 33 i ≡ true = rw e at f in
@@ -110,11 +109,11 @@ module _ (store rows : List ℕ) (b : WholeRows rows) (R : RowScan) (i : ℕ) wh
 
   -- a chunk row or field row among others
   pub field_row_lem : {r : Scan} {m : ℕ} → Scanned rows m i r (scan_chunk_or_field store R 33 (at_row rows i)) → Scanned rows m i r (scan_field store R (at_row rows i))
-  unfolding if◌then◌else◌
+  unfolding when◌then◌else◌
   field_row_lem s = s
 
   pub chunk_row_lem : {r : Scan} {m : ℕ} → Scanned rows m i r (scan_chunk_or_field store R 32 (at_row rows i)) → Scanned rows m i r (scan_chunk store R (at_row rows i))
-  unfolding if◌then◌else◌
+  unfolding when◌then◌else◌
   chunk_row_lem s = s
 
 ---- a closure's function and values

@@ -7,7 +7,7 @@ use native.Mathlib.Omega.{arith}
 use Rattle.std.proofs.Math.Dec.{eqb}
 use Rattle.std.proofs.Math.ListN.{length}
 use borrow.Author.Tests.{eq-eqb, eqb-false, eqb-true, le-ltb, lt-ltb, ne_eqb}
-use Rattle.payload.specs.Choice.{◌and◌, if◌then◌else◌}
+use Rattle.payload.specs.Choice.{◌and◌, when◌then◌else◌}
 use Rattle.payload.specs.Laws.Pool.{and_both}
 use Rattle.payload.specs.Reader.{Part, ◌>>=◌, ◌>>◌, and_then, ok, pure, refused, start}
 use Rattle.payload.specs.Rows.{row_width}
@@ -76,7 +76,7 @@ no_starts (s ∷ ss) = ne_eqb (suc (length ss)) 0 (λ e. omega arith)
 -- flag 0, and flag 1
 module _ (T : Tables) where
   pub no_line : T.flag ≡ 0 → ((eqb T.name_offset 0 && eqb T.name_length 0) && eqb (length T.starts) 0) ≡ line_sound T
-  unfolding line_sound if◌then◌else◌ ◌and◌
+  unfolding line_sound when◌then◌else◌ ◌and◌
   no_line e = rw (eq-eqb T.flag 0 e, no_starts T.starts) (go (eqb T.name_offset 0) (eqb T.name_length 0) (is_nil T.starts))
     where
       go : (a b c : Bool) → ((a && b) && c) ≡ (a and b and c)
@@ -85,11 +85,11 @@ module _ (T : Tables) where
       go false b c = refl
 
   pub bad_flag : (T.flag ≡ 0 → ⊥) → (T.flag ≡ 1 → ⊥) → line_sound T ≡ false
-  unfolding line_sound if◌then◌else◌ ◌and◌
+  unfolding line_sound when◌then◌else◌ ◌and◌
   bad_flag e f = rw (ne_eqb T.flag 0 e) (rw (ne_eqb T.flag 1 f))
 
   pub a_line : T.flag ≡ 1 → all_starts T.starts ≡ true → part_is_utf8 T.store T.name_offset T.name_length ≡ line_sound T
-  unfolding line_sound if◌then◌else◌ ◌and◌ part_is_utf8
+  unfolding line_sound when◌then◌else◌ ◌and◌ part_is_utf8
   a_line e s = rw (e, s) (go (leb (T.name_offset + T.name_length) (length T.store)) (is_utf8 (take T.name_length (drop T.name_offset T.store))))
     where
       go : (a b : Bool) → (a && b) ≡ (a and b and true)
@@ -152,7 +152,7 @@ module _ (T : Tables) where
 ---- what the scan of the outer chunk tells of the script
 
 outer_is : (store rows : List ℕ) → scan_chunk_or_field store (scan_value store 32) 32 (at_row rows 0) ≡ scan_outer store (start rows)
-unfolding scan_outer if◌then◌else◌
+unfolding scan_outer when◌then◌else◌
 outer_is store rows = refl
 
 module _ (T : Tables) {r : Scan} (s : Scanned T.rows 1 0 r (scan_chunk_or_field T.store (scan_value T.store 32) 32 (at_row T.rows 0))) where

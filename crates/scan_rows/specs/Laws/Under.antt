@@ -1,7 +1,7 @@
 -- Rows with those under them: one after another, and how far they reach.
 use Rattle.std.specs.Prelude.{Bool, false, true, List, [], ◌++◌, ◌∷◌, ◌≡◌, refl, ◌+◌, ◌-◌, ◌<◌, ◌≤◌, suc, ℕ}
 use Rattle.std.proofs.Common.{◌∙◌, ap, suc-add, zero-add, arith}
-use Rattle.payload.specs.Choice.{◌or◌, if◌then◌else◌}
+use Rattle.payload.specs.Choice.{◌or◌, when◌then◌else◌}
 use Rattle.payload.specs.Pool.{is_in}
 use Rattle.payload.specs.Shapes.{Shape, keys, no_value, one_value, pairs, shape, values, with_chunk, with_fields, with_kids, with_template}
 use Rattle.row_layout.specs.Layout.{kids_rules, shape_rules, under_rules}
@@ -40,7 +40,7 @@ pub skip_row : {rows : List ℕ} {i j n : ℕ} → i < row_count rows → n ≡ 
 skip_row {rows} {i} {j} {n} u e s = let f : n ≡ rows_under rows i + 0 = omega arith in over u (rw f at s)
 
 under_by_lem : (sh : Shape) (n : ℕ) → shape_under sh n ≡ under_by (shape_rules sh) n
-unfolding shape_under kids_under under_by shape_rules kids_rules if◌then◌else◌
+unfolding shape_under kids_under under_by shape_rules kids_rules when◌then◌else◌
 under_by_lem (with_kids kinds no_value) n = refl
 under_by_lem (with_kids kinds one_value) n = refl
 under_by_lem (with_kids kinds values) n = refl

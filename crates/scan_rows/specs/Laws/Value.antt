@@ -6,8 +6,8 @@ use Rattle.std.proofs.Math.Path.{refl}
 use Prim.Native.Nat.{◌*◌, ◌+◌, ◌<◌, suc, zero, ℕ}
 use Rattle.std.proofs.Math.Dec.{eqb, ltb}
 use borrow.Author.Tests.{ltb-false, ltb-true}
-use Rattle.payload.specs.Choice.{◌and◌, if◌then◌else◌}
-use Rattle.payload.specs.Laws.Keeps.{not_ok}
+use Rattle.payload.specs.Choice.{◌and◌, when◌then◌else◌}
+use Rattle.payload.proofs.Laws.Keeps.{not_ok}
 use Rattle.payload.specs.Laws.Pool.{and_left, and_right, false≢true}
 use Rattle.payload.specs.Reader.{Part, Reader, Result, State, ◌>>=◌, and_then, ok, pure, refused}
 use Rattle.payload.specs.Reading.{read_many}
@@ -25,7 +25,7 @@ use Rattle.scan_rows.specs.Under.{rows_under, scan_by, scan_under, under_by}
 use Rattle.scan_rows.specs.declared.Scan.{Scan}
 
 under_by_rules : (store : List ℕ) (r : RowScan) (sh : Shape) (n : ℕ) → scan_under store r sh n ≡ scan_by store r (shape_rules sh) n
-unfolding scan_under scan_by scan_kids shape_rules kids_rules if◌then◌else◌
+unfolding scan_under scan_by scan_kids shape_rules kids_rules when◌then◌else◌
 under_by_rules store r (with_kids kinds no_value) n = refl
 under_by_rules store r (with_kids kinds one_value) n = refl
 under_by_rules store r (with_kids kinds values) n = refl

@@ -3,7 +3,6 @@ use mathlib.Core.Path.{◌≡◌, sym, ◌∙◌, subst}
 use Prim.Native.Nat.{ℕ, ◌+◌, ◌-◌, ◌*◌, ◌/◌, ◌%◌, ◌^◌, ◌≤◌, ◌<◌}
 use native.Mathlib.Omega.{arith}
 use native.Mathlib.Nat.{mod-lt, one-mul}
-use borrow.Author.Rules.{rules}
 use lib.Pow.{pow_pos, pow_mono, shl_exact}
 use Rattle.signed.specs.Signed.{word_of, signed_of}
 use Rattle.signed.specs.Laws.Signed.{pow_half, cut_low, cut_high}

@@ -1,5 +1,4 @@
 -- `signed::from_word` meets its contract. Assumes nothing.
-use borrow.Author.Rules.{rules}
 use mathlib.Core.Path.{◌≡◌, sym, ap, ◌∙◌}
 use Prim.Native.Nat.{ℕ, suc, ◌-◌, ◌%◌, ◌^◌}
 use native.Mathlib.Omega.{arith}

@@ -1,5 +1,4 @@
 -- `signed::unzigzag` meets its contract. Assumes nothing.
-use borrow.Author.Rules.{rules}
 use native.Mathlib.Omega.{arith}
 use Prim.Native.Nat.{◌%◌, ◌/◌}
 use Rattle.signed.proofs.Signs.{minus_bit, unfold_is}

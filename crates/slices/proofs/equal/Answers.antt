@@ -1,10 +1,7 @@
 -- `equal` meets its contract: at each turn the first i bytes are equal.
-use mathlib.Core.Path.{◌≡◌, sym, ◌∙◌}
-use Prim.Native.Nat.{◌-◌, ◌≤◌}
+use mathlib.Core.Path.{sym, ◌∙◌}
 use native.Mathlib.Omega.{arith}
-use lib.ListN.{length, take}
 use borrow.Author.Tests.{not-true, not-false}
-use borrow.Author.Rules.{rules}
 use Rattle.slices.specs.Laws.Same.{same_long, same_part_no, take_same}
 use Rattle.slices.proofs.equal.Goals as goal
 

@@ -1,10 +1,6 @@
-use mathlib.Core.Path.{◌≡◌, sym, ◌∙◌}
+use mathlib.Core.Path.{◌≡◌}
 use Prim.Native.Nat.{◌-◌, ◌≤◌}
-use native.Mathlib.Omega.{arith}
 use lib.ListN.{length, take}
-use borrow.Author.Tests.{not-true, not-false}
-use borrow.Author.Rules.{rules}
-use Rattle.slices.specs.Laws.Same.{same_long, same_part_no, take_same}
 use Rattle.slices.proofs.equal.Given as goal
 
 abbrev pub invariant-loop-i : goal.invariant-loop-i

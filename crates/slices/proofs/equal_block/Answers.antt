@@ -1,11 +1,10 @@
 -- `equal_block` meets its contract: at each turn `ok` says whether the bytes from i to k are equal.
 use mathlib.Core.Path.{◌≡◌, ap, ◌∙◌}
 use mathlib.Core.Bool.{Bool, ◌&&◌}
-use Prim.Native.Nat.{◌-◌, ◌≤◌}
+use Prim.Native.Nat.{◌-◌}
 use native.Mathlib.Omega.{arith}
-use lib.ListN.{get_or, take, drop}
+use lib.ListN.{get_or}
 use lib.Dec.{eqb}
-use borrow.Author.Rules.{rules}
 use Rattle.slices.specs.Same.{same}
 use Rattle.slices.proofs.Loops.{block_more}
 use Rattle.slices.proofs.equal_block.Goals as goal

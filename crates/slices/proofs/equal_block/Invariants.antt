@@ -1,12 +1,7 @@
-use mathlib.Core.Path.{◌≡◌, ap, ◌∙◌}
-use mathlib.Core.Bool.{Bool, ◌&&◌}
+use mathlib.Core.Path.{◌≡◌}
 use Prim.Native.Nat.{◌-◌, ◌≤◌}
-use native.Mathlib.Omega.{arith}
-use lib.ListN.{get_or, take, drop}
-use lib.Dec.{eqb}
-use borrow.Author.Rules.{rules}
+use lib.ListN.{take, drop}
 use Rattle.slices.specs.Same.{same}
-use Rattle.slices.proofs.Loops.{block_more}
 use Rattle.slices.proofs.equal_block.Given as goal
 
 abbrev pub invariant-loop-k : goal.invariant-loop-k

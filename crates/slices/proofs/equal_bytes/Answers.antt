@@ -1,10 +1,6 @@
 -- `equal_bytes` meets its contract: at each turn the bytes from i on decide.
-use mathlib.Core.Path.{◌≡◌, sym, ◌∙◌}
-use Prim.Native.Nat.{◌-◌, ◌≤◌}
+use mathlib.Core.Path.{sym, ◌∙◌}
 use native.Mathlib.Omega.{arith}
-use lib.ListN.{length, drop}
-use borrow.Author.Rules.{rules}
-use Rattle.slices.specs.Same.{same}
 use Rattle.slices.specs.Laws.Same.{same_step, same_differ, same_end}
 use Rattle.slices.proofs.equal_bytes.Goals as goal
 

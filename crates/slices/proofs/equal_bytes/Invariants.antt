@@ -1,10 +1,7 @@
-use mathlib.Core.Path.{◌≡◌, sym, ◌∙◌}
+use mathlib.Core.Path.{◌≡◌}
 use Prim.Native.Nat.{◌-◌, ◌≤◌}
-use native.Mathlib.Omega.{arith}
 use lib.ListN.{length, drop}
-use borrow.Author.Rules.{rules}
 use Rattle.slices.specs.Same.{same}
-use Rattle.slices.specs.Laws.Same.{same_step, same_differ, same_end}
 use Rattle.slices.proofs.equal_bytes.Given as goal
 
 abbrev pub invariant-loop-i : goal.invariant-loop-i

@@ -1,6 +1,5 @@
 -- `half` meets its contract: two bytes, and two more.
 use native.Mathlib.Omega.{arith}
-use borrow.Author.Rules.{rules}
 use Rattle.slices.specs.Laws.LittleEndian.{from_le_bytes_part}
 use Rattle.slices.proofs.half.Goals as goal
 

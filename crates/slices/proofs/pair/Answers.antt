@@ -2,7 +2,6 @@
 use mathlib.Core.Path.{refl}
 use Prim.Native.Nat.{◌+◌}
 use native.Mathlib.Omega.{arith}
-use borrow.Author.Rules.{rules}
 use Rattle.slices.specs.LittleEndian.{from_le_bytes}
 use Rattle.slices.specs.Laws.LittleEndian.{bytes_first}
 use Rattle.slices.proofs.pair.Goals as goal

@@ -1,6 +1,5 @@
 -- `word` meets its contract: four bytes, and four more.
 use native.Mathlib.Omega.{arith}
-use borrow.Author.Rules.{rules}
 use Rattle.slices.specs.Laws.LittleEndian.{from_le_bytes_part}
 use Rattle.slices.proofs.word.Goals as goal
 

@@ -1,7 +1,6 @@
 use Prim.Native.Nat.{◌-◌}
 use lib.ListN.{length}
-use borrow.Author.Rules.{rules}
-use Rattle.slices.proofs.Loops.{Filled, filled_start, filled_more, filled_end}
+use Rattle.slices.proofs.Loops.{Filled}
 use Rattle.slices.proofs.zero_u32_from.Given as goal
 
 abbrev pub invariant-loop-j : goal.invariant-loop-j

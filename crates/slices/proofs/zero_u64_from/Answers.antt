@@ -1,8 +1,5 @@
 -- `zero_u64_from` meets its contract.
-use Prim.Native.Nat.{◌-◌}
-use lib.ListN.{length}
-use borrow.Author.Rules.{rules}
-use Rattle.slices.proofs.Loops.{Filled, filled_start, filled_more, filled_end}
+use Rattle.slices.proofs.Loops.{filled_start, filled_more, filled_end}
 use Rattle.slices.proofs.zero_u64_from.Goals as goal
 
 pub loop-i-init : goal.loop-i-init

@@ -1,7 +1,7 @@
 -- `trie::hash` meets its contract: by its three cases.
 use Rattle.trie.specs.Hash.{mix}
 use Rattle.trie.specs.Laws.Hash.{hash_few, hash_some, hash_many}
-use Rattle.std.proofs.Common.{ℕ, ◌+◌, ◌*◌, length, ap, ◌∙◌, ap₂, rules}
+use Rattle.std.proofs.Common.{ℕ, ◌+◌, ◌*◌, length, ap, ◌∙◌, ap₂}
 use Rattle.trie.proofs.hash.Goals as goal
 
 pub returns-then-n-lt4 : goal.returns-then-n-lt4

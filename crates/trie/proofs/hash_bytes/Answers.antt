@@ -1,7 +1,7 @@
 -- `trie::hash_bytes` meets its contract: the bytes left, from the hash of those passed.
 use Rattle.trie.specs.Hash.{mix, of_bytes}
 use Rattle.trie.specs.Laws.Hash.{bytes_one, bytes_end}
-use Rattle.std.proofs.Common.{◌≡◌, ℕ, ◌+◌, ◌-◌, ◌≤◌, length, drop, sym, refl, ap, ◌∙◌, arith, rules}
+use Rattle.std.proofs.Common.{ℕ, ◌+◌, drop, sym, refl, ap, ◌∙◌, arith}
 use Rattle.trie.proofs.hash_bytes.Goals as goal
 
 pub loop-i-init : goal.loop-i-init

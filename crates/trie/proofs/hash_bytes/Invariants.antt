@@ -1,6 +1,5 @@
-use Rattle.trie.specs.Hash.{mix, of_bytes}
-use Rattle.trie.specs.Laws.Hash.{bytes_one, bytes_end}
-use Rattle.std.proofs.Common.{◌≡◌, ℕ, ◌+◌, ◌-◌, ◌≤◌, length, drop, sym, refl, ap, ◌∙◌, arith, rules}
+use Rattle.trie.specs.Hash.{of_bytes}
+use Rattle.std.proofs.Common.{◌≡◌, ◌-◌, ◌≤◌, length, drop}
 use Rattle.trie.proofs.hash_bytes.Given as goal
 
 abbrev pub invariant-loop-i : goal.invariant-loop-i

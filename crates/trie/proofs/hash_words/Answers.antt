@@ -1,7 +1,7 @@
 -- `trie::hash_words` meets its contract: the words left, from the hash of those passed.
 use Rattle.trie.specs.Hash.{mix, of_words}
 use Rattle.trie.specs.Laws.Hash.{words_eight, words_end}
-use Rattle.std.proofs.Common.{◌≡◌, ℕ, ◌+◌, ◌-◌, ◌≤◌, length, drop, sym, ap, ◌∙◌, arith, rules}
+use Rattle.std.proofs.Common.{◌≡◌, ℕ, ◌+◌, ◌-◌, length, drop, sym, ap, ◌∙◌, arith}
 use Rattle.trie.proofs.hash_words.Goals as goal
 
 pub loop-i-init : goal.loop-i-init

@@ -1,6 +1,5 @@
-use Rattle.trie.specs.Hash.{mix, of_words}
-use Rattle.trie.specs.Laws.Hash.{words_eight, words_end}
-use Rattle.std.proofs.Common.{◌≡◌, ℕ, ◌+◌, ◌-◌, ◌≤◌, length, drop, sym, ap, ◌∙◌, arith, rules}
+use Rattle.trie.specs.Hash.{of_words}
+use Rattle.std.proofs.Common.{◌≡◌, ◌-◌, ◌≤◌, length, drop}
 use Rattle.trie.proofs.hash_words.Given as goal
 
 abbrev pub invariant-loop-i : goal.invariant-loop-i

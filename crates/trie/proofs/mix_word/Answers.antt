@@ -1,5 +1,5 @@
 -- `trie::mix_word` meets its contract: the sum fits.
-use Rattle.std.proofs.Common.{ℕ, ◌+◌, ◌*◌, ◌/◌, ◌%◌, ◌^◌, ◌<◌, ap, mod-lt, arith, lit<, rules}
+use Rattle.std.proofs.Common.{ℕ, ◌+◌, ◌*◌, ◌/◌, ◌%◌, ◌^◌, ◌<◌, ap, mod-lt, arith, lit<}
 use Rattle.trie.specs.Hash.{mix}
 use Rattle.trie.proofs.mix_word.Goals as goal
 

@@ -1,5 +1,4 @@
 -- The two tests are those of the definition.
-use borrow.Author.Rules.{rules}
 use Rattle.utf8.specs.Utf8.{is_one}
 use Rattle.utf8.specs.Pairs.{begins_short}
 use Rattle.utf8.proofs.begins_short.Goals as goal

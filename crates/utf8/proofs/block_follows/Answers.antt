@@ -1,11 +1,10 @@
 -- Each byte behind index i, up to the loop's index, can stand after the one before it.
-use Prim.Native.Nat.{ℕ, ◌+◌, ◌-◌, ◌≤◌}
-use mathlib.Core.Path.{◌≡◌, sym, ◌∙◌}
-use mathlib.Core.Bool.{true}
+use Prim.Native.Nat.{ℕ, ◌+◌}
+use mathlib.Core.Path.{sym, ◌∙◌}
 use mathlib.Core.List.{List}
 use native.Mathlib.Omega.{arith}
 use borrow.Author.Rules.{rules}
-use Rattle.utf8.specs.Pairs.{FollowsAt, Follows}
+use Rattle.utf8.specs.Pairs.{FollowsAt}
 use Rattle.utf8.proofs.Runs.{run_one, run_and}
 use Rattle.utf8.proofs.block_follows.Goals as goal
 

@@ -1,11 +1,7 @@
-use Prim.Native.Nat.{ℕ, ◌+◌, ◌-◌, ◌≤◌}
-use mathlib.Core.Path.{◌≡◌, sym, ◌∙◌}
+use Prim.Native.Nat.{◌+◌, ◌-◌, ◌≤◌}
+use mathlib.Core.Path.{◌≡◌}
 use mathlib.Core.Bool.{true}
-use mathlib.Core.List.{List}
-use native.Mathlib.Omega.{arith}
-use borrow.Author.Rules.{rules}
-use Rattle.utf8.specs.Pairs.{FollowsAt, Follows}
-use Rattle.utf8.proofs.Runs.{run_one, run_and}
+use Rattle.utf8.specs.Pairs.{Follows}
 use Rattle.utf8.proofs.block_follows.Given as goal
 
 abbrev pub invariant-loop-k : goal.invariant-loop-k

@@ -2,7 +2,6 @@
 use Prim.Native.Nat.{ℕ, ◌+◌}
 use mathlib.Core.List.{List}
 use native.Mathlib.Omega.{arith}
-use borrow.Author.Rules.{rules}
 use Rattle.slices.specs.Laws.LittleEndian.{Bytes}
 use Rattle.utf8.proofs.Ascii.{test_ascii, ascii_and}
 use Rattle.utf8.proofs.block_is_ascii.Goals as goal

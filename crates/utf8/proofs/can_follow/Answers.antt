@@ -1,5 +1,4 @@
 -- The three tests are those of the definition.
-use borrow.Author.Rules.{rules}
 use Rattle.utf8.specs.Pairs.{can_follow}
 use Rattle.utf8.proofs.can_follow.Goals as goal
 

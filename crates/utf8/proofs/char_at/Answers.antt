@@ -2,7 +2,6 @@
 use mathlib.Core.Path.{sym}
 use mathlib.Core.Bool.{true, false}
 use native.Mathlib.Omega.{arith}
-use borrow.Author.Rules.{rules}
 use Rattle.utf8.specs.Laws.Utf8.{char_one, char_none, char_two, char_three, char_four}
 use Rattle.utf8.proofs.char_at.Goals as goal
 

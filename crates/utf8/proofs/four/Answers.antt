@@ -1,6 +1,5 @@
 -- The four tests by the first byte are those of UTF8-4.
 use native.Mathlib.Omega.{arith}
-use borrow.Author.Rules.{rules}
 use Rattle.utf8.specs.Laws.Utf8.{four_F0, four_F1, four_F4, four_none}
 use Rattle.utf8.proofs.four.Goals as goal
 

@@ -1,11 +1,6 @@
 -- Whole characters stand before the loop's index, so that the rest decides.
-use Prim.Native.Nat.{ℕ, ◌+◌, ◌-◌}
 use mathlib.Core.Path.{sym, ◌∙◌}
-use mathlib.Core.List.{List}
 use native.Mathlib.Omega.{arith}
-use lib.ListN.{length}
-use borrow.Author.Rules.{rules}
-use Rattle.utf8.specs.Skips.{Skips}
 use Rattle.utf8.specs.Laws.Utf8.{utf8_bad, utf8_end}
 use Rattle.utf8.proofs.Skips.{skips_on, skips_one, skips_char}
 use Rattle.utf8.proofs.is_utf8.Goals.{Else-w-eq0}

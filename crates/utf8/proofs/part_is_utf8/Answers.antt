@@ -3,7 +3,6 @@ use Prim.Native.Nat.{ℕ, ◌+◌, ◌-◌}
 use mathlib.Core.Path.{◌≡◌, sym, ap, ◌∙◌}
 use native.Mathlib.Omega.{arith}
 use lib.ListN.{take, drop}
-use borrow.Author.Rules.{rules}
 use Rattle.utf8.specs.Utf8.{is_utf8}
 use Rattle.utf8.specs.Laws.Utf8.{part_inside, part_outside}
 use Rattle.utf8.proofs.part_is_utf8.Goals as goal

@@ -1,5 +1,4 @@
 -- With a first byte other than E0 and ED, two tails make a UTF8-3.
-use borrow.Author.Rules.{rules}
 use Rattle.utf8.specs.Laws.Utf8.{three_plain}
 use Rattle.utf8.proofs.plain_three.Goals as goal
 

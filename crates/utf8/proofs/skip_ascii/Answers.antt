@@ -4,7 +4,6 @@ use mathlib.Core.Path.{◌≡◌, ap}
 use mathlib.Core.List.{List}
 use native.Mathlib.Omega.{arith}
 use lib.Count.{count_trailing_zeros, trailing_le}
-use borrow.Author.Rules.{rules}
 use Rattle.slices.specs.Laws.LittleEndian.{Bytes}
 use Rattle.utf8.specs.Skips.{high_bits}
 use Rattle.utf8.proofs.Ascii.{prefix_ascii}

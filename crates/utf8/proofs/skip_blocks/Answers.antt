@@ -1,9 +1,5 @@
 -- Whole characters stand from `from` up to the loop's index.
-use Prim.Native.Nat.{◌-◌}
 use native.Mathlib.Omega.{arith}
-use lib.ListN.{length}
-use borrow.Author.Rules.{rules}
-use Rattle.utf8.specs.Skips.{Skips}
 use Rattle.utf8.proofs.Skips.{skips_none, skips_on, skips_ascii}
 use Rattle.utf8.proofs.skip_blocks.Goals as goal
 

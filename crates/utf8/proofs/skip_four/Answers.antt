@@ -1,10 +1,6 @@
 -- Whole characters stand from `from` up to the loop's index.
-use Prim.Native.Nat.{◌-◌}
 use mathlib.Core.Path.{sym, ◌∙◌}
 use native.Mathlib.Omega.{arith}
-use lib.ListN.{length}
-use borrow.Author.Rules.{rules}
-use Rattle.utf8.specs.Skips.{Skips}
 use Rattle.utf8.proofs.Skips.{skips_none, skips_on, skips_four}
 use Rattle.utf8.proofs.skip_four.Goals as goal
 

@@ -1,10 +1,6 @@
 use Prim.Native.Nat.{◌-◌}
-use mathlib.Core.Path.{sym, ◌∙◌}
-use native.Mathlib.Omega.{arith}
 use lib.ListN.{length}
-use borrow.Author.Rules.{rules}
 use Rattle.utf8.specs.Skips.{Skips}
-use Rattle.utf8.proofs.Skips.{skips_none, skips_on, skips_four}
 use Rattle.utf8.proofs.skip_four.Given as goal
 
 abbrev pub invariant-loop-i : goal.invariant-loop-i

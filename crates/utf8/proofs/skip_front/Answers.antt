@@ -1,6 +1,5 @@
 -- ASCII and then pairs, end to end.
 use native.Mathlib.Omega.{arith}
-use borrow.Author.Rules.{rules}
 use Rattle.utf8.proofs.Skips.{skips_none, skips_on}
 use Rattle.utf8.proofs.skip_front.Goals as goal
 

@@ -1,14 +1,12 @@
 -- Each byte behind `from`, up to the loop's index, can stand after the one before it, so that whole characters stand before the last of them.
-use Prim.Native.Nat.{ℕ, ◌+◌, ◌-◌, ◌≤◌, ◌<◌}
-use mathlib.Core.Path.{◌≡◌, sym, ◌∙◌}
-use mathlib.Core.Bool.{true}
-use mathlib.Core.Logic.{⊎_elim}
+use Prim.Native.Nat.{ℕ, ◌+◌, ◌≤◌, ◌<◌}
+use mathlib.Core.Path.{sym, ◌∙◌}
 use mathlib.Core.List.{List}
 use native.Mathlib.Omega.{arith}
-use lib.ListN.{length, get_or}
+use lib.ListN.{length}
 use borrow.Author.Rules.{rules}
 use borrow.Author.Tests.{not-false}
-use Rattle.utf8.specs.Pairs.{begins_short, FollowsAt, Follows}
+use Rattle.utf8.specs.Pairs.{FollowsAt}
 use Rattle.utf8.proofs.Runs.{run_join}
 use Rattle.utf8.proofs.Skips.{skips_none, skips_pairs}
 use Rattle.utf8.proofs.skip_pairs.Goals.{Joined-i-last, else-i-last, then-i-last}

@@ -1,15 +1,8 @@
-use Prim.Native.Nat.{ℕ, ◌+◌, ◌-◌, ◌≤◌, ◌<◌}
-use mathlib.Core.Path.{◌≡◌, sym, ◌∙◌}
+use Prim.Native.Nat.{◌-◌, ◌≤◌, ◌<◌}
+use mathlib.Core.Path.{◌≡◌}
 use mathlib.Core.Bool.{true}
-use mathlib.Core.Logic.{⊎_elim}
-use mathlib.Core.List.{List}
-use native.Mathlib.Omega.{arith}
 use lib.ListN.{length, get_or}
-use borrow.Author.Rules.{rules}
-use borrow.Author.Tests.{not-false}
-use Rattle.utf8.specs.Pairs.{begins_short, FollowsAt, Follows}
-use Rattle.utf8.proofs.Runs.{run_join}
-use Rattle.utf8.proofs.Skips.{skips_none, skips_pairs}
+use Rattle.utf8.specs.Pairs.{begins_short, Follows}
 use Rattle.utf8.proofs.skip_pairs.Given as goal
 
 abbrev pub invariant-loop-i : goal.invariant-loop-i

@@ -1,9 +1,6 @@
 use Prim.Native.Nat.{◌-◌}
-use native.Mathlib.Omega.{arith}
 use lib.ListN.{length}
-use borrow.Author.Rules.{rules}
 use Rattle.utf8.specs.Skips.{Skips}
-use Rattle.utf8.proofs.Skips.{skips_none, skips_on, skips_three}
 use Rattle.utf8.proofs.skip_three.Given as goal
 
 abbrev pub invariant-loop-i : goal.invariant-loop-i

@@ -4,9 +4,7 @@ use mathlib.Core.Path.{sym, ◌∙◌}
 use mathlib.Core.List.{List}
 use native.Mathlib.Omega.{arith}
 use lib.ListN.{length}
-use borrow.Author.Rules.{rules}
 use Rattle.slices.specs.Laws.LittleEndian.{Bytes}
-use Rattle.utf8.specs.Skips.{Skips}
 use Rattle.utf8.proofs.Ascii.{word_ascii}
 use Rattle.utf8.proofs.Skips.{skips_on, skips_ascii}
 use Rattle.utf8.proofs.skip_words.Goals as goal

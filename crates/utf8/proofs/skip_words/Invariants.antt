@@ -1,13 +1,6 @@
-use Prim.Native.Nat.{ℕ, ◌+◌, ◌-◌}
-use mathlib.Core.Path.{sym, ◌∙◌}
-use mathlib.Core.List.{List}
-use native.Mathlib.Omega.{arith}
+use Prim.Native.Nat.{◌-◌}
 use lib.ListN.{length}
-use borrow.Author.Rules.{rules}
-use Rattle.slices.specs.Laws.LittleEndian.{Bytes}
 use Rattle.utf8.specs.Skips.{Skips}
-use Rattle.utf8.proofs.Ascii.{word_ascii}
-use Rattle.utf8.proofs.Skips.{skips_on, skips_ascii}
 use Rattle.utf8.proofs.skip_words.Given as goal
 
 abbrev pub invariant-loop-i : goal.invariant-loop-i

@@ -1,5 +1,4 @@
 -- The three tests by the first byte are those of UTF8-3.
-use borrow.Author.Rules.{rules}
 use Rattle.utf8.specs.Laws.Utf8.{three_E0, three_ED, three_rest}
 use Rattle.utf8.proofs.three.Goals as goal
 

@@ -1,5 +1,4 @@
 -- The test is that of UTF8-2.
-use borrow.Author.Rules.{rules}
 use Rattle.utf8.specs.Utf8.{is_two}
 use Rattle.utf8.proofs.two.Goals as goal
 

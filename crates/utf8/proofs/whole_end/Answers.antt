@@ -1,5 +1,4 @@
 -- The test is that of the definition.
-use borrow.Author.Rules.{rules}
 use borrow.Author.Tests.{le-leb, lt-leb}
 use Rattle.utf8.proofs.whole_end.Goals as goal
 

@@ -2,11 +2,9 @@
 -- read from `i` on. Assumes nothing.
 use mathlib.Core.Path.{◌≡◌, refl, sym, ap, ◌∙◌}
 use mathlib.Core.List.{List}
-use mathlib.Core.Logic.{⊎_elim}
 use Prim.Native.Nat.{ℕ, zero, suc, ◌+◌, ◌-◌, ◌*◌, ◌/◌, ◌%◌, ◌^◌, ◌≤◌, ◌<◌}
 use native.Mathlib.Omega.{arith}
 use native.Mathlib.Nat.{mod-lt, mul-mod_left}
-use borrow.Author.Rules.{rules}
 use lib.Arith.{digits_lt}
 use lib.Pow.{pow-add, pow_pos, mod-pow-add}
 use lib.ListN.{length, drop, get_or}

@@ -1,17 +1,9 @@
-use mathlib.Core.Path.{◌≡◌, refl, sym, ap, ◌∙◌}
+use mathlib.Core.Path.{◌≡◌}
 use mathlib.Core.List.{List}
-use mathlib.Core.Logic.{⊎_elim}
-use Prim.Native.Nat.{ℕ, zero, suc, ◌+◌, ◌-◌, ◌*◌, ◌/◌, ◌%◌, ◌^◌, ◌≤◌, ◌<◌}
-use native.Mathlib.Omega.{arith}
-use native.Mathlib.Nat.{mod-lt, mul-mod_left}
-use borrow.Author.Rules.{rules}
-use lib.Arith.{digits_lt}
-use lib.Pow.{pow-add, pow_pos, mod-pow-add}
-use lib.ListN.{length, drop, get_or}
-use Rattle.varint.specs.declared.Varint.{Varint}
-use Rattle.varint.specs.declared.Varint.TheVariants.{Number, Refused}
-use Rattle.varint.specs.Varint.{under, scan, cut, varint_of}
-use Rattle.varint.specs.Laws.Varint.{at_end, at_last, at_more, onto, onto_under, scan_none}
+use Prim.Native.Nat.{ℕ, ◌+◌, ◌-◌, ◌*◌, ◌^◌, ◌≤◌, ◌<◌}
+use lib.ListN.{length, drop}
+use Rattle.varint.specs.Varint.{scan, cut, varint_of}
+use Rattle.varint.specs.Laws.Varint.{onto}
 use Rattle.varint.proofs.uvarint_long.Given as goal
 
 pub record Sofar (s : List ℕ) (at end value shift i : ℕ) : Type 0 where

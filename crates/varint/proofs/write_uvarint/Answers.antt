@@ -7,7 +7,6 @@ use native.Mathlib.Numerals.{add-one}
 use native.Mathlib.Omega.{arith}
 use lib.ListN.{length, set, length-set}
 use Rattle.slices.specs.Put.{put}
-use Rattle.varint.specs.Uleb128.{uleb128}
 use Rattle.varint.specs.Laws.Uleb128.{uleb_small, uleb_large, uleb_some}
 use Rattle.varint.proofs.write_uvarint.Invariants.{Left}
 use Rattle.varint.proofs.write_uvarint.Goals as goal

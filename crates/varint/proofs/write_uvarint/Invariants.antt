@@ -1,12 +1,9 @@
-use mathlib.Core.Path.{◌≡◌, refl, sym, ap, ◌∙◌}
+use mathlib.Core.Path.{◌≡◌}
 use mathlib.Core.List.{List}
-use Prim.Native.Nat.{ℕ, ◌≤◌, ◌<◌, ◌+◌, ◌%◌, ◌/◌}
-use native.Mathlib.Numerals.{add-one}
-use native.Mathlib.Omega.{arith}
-use lib.ListN.{length, set, length-set}
+use Prim.Native.Nat.{ℕ, ◌≤◌, ◌+◌}
+use lib.ListN.{length}
 use Rattle.slices.specs.Put.{put}
 use Rattle.varint.specs.Uleb128.{uleb128}
-use Rattle.varint.specs.Laws.Uleb128.{uleb_small, uleb_large, uleb_some}
 use Rattle.varint.proofs.write_uvarint.Given as goal
 
 pub record Left (whole : List ℕ) (end : ℕ) (out₀ out : List ℕ) (rest i : ℕ) : Type 0 where

@@ -1,5 +1,5 @@
 -- `write_code::boundary_width` meets its contract: three numbers below 128 have a byte each.
-use Rattle.std.proofs.Common.{◌≡◌, ℕ, ◌+◌, ◌*◌, Bool, true, false, cond, ◌&&◌, ltb, length, ap, ◌∙◌, arith, rules, ltb-true}
+use Rattle.std.proofs.Common.{◌≡◌, ℕ, ◌+◌, ◌*◌, Bool, true, false, cond, ◌&&◌, ltb, length, ap, ◌∙◌, arith, ltb-true}
 use mathlib.Core.Bool.{and-eq-true_iff}
 use Rattle.varint.specs.Laws.Uleb128.{uleb_small}
 use Rattle.varint.specs.Uleb128.{uleb128}

@@ -1,8 +1,6 @@
 -- `write_code::count_runs` meets its contract: a span that differs from the next ends a run, and the last span ends one.
-use Rattle.std.proofs.Common.{◌-◌, ◌*◌, ◌/◌, true, false, length, drop, ⊎_elim, arith, rules}
-use Rattle.payload.specs.Sound.{spans_of}
-use Rattle.payload.specs.Spans.{runs_of}
-use Rattle.write_code.specs.Laws.Runs.{Counted, counted_next, counted_end, counted_none}
+use Rattle.std.proofs.Common.{true, false, arith}
+use Rattle.write_code.specs.Laws.Runs.{counted_next, counted_end, counted_none}
 use Rattle.write_code.proofs.count_runs.Goals.{else-spans-k, then-spans-k}
 use Rattle.write_code.proofs.count_runs.Goals as goal
 

@@ -1,7 +1,7 @@
-use Rattle.std.proofs.Common.{◌-◌, ◌*◌, ◌/◌, true, false, length, drop, ⊎_elim, arith, rules}
+use Rattle.std.proofs.Common.{◌-◌, ◌*◌, ◌/◌, length, drop}
 use Rattle.payload.specs.Sound.{spans_of}
 use Rattle.payload.specs.Spans.{runs_of}
-use Rattle.write_code.specs.Laws.Runs.{Counted, counted_next, counted_end, counted_none}
+use Rattle.write_code.specs.Laws.Runs.{Counted}
 use Rattle.write_code.proofs.count_runs.Given as goal
 
 abbrev pub invariant-loop-k : goal.invariant-loop-k

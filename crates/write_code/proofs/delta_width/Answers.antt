@@ -1,5 +1,5 @@
 -- `write_code::delta_width` meets its contract: a delta is the ULEB128 of its zigzag.
-use Rattle.std.proofs.Common.{ℕ, length, ap, ◌∙◌, rules}
+use Rattle.std.proofs.Common.{ℕ, length, ap, ◌∙◌}
 use Rattle.varint.specs.Uleb128.{uleb128}
 use Rattle.payload.specs.Spans.{write_delta}
 use Rattle.write_code.proofs.delta_width.Goals as goal

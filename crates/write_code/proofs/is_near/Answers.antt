@@ -1,5 +1,5 @@
 -- `write_code::is_near` meets its contract: the zigzag of a delta from -64 to 63 is below 128.
-use Rattle.std.proofs.Common.{◌≡◌, ℕ, zero, suc, ◌+◌, ◌%◌, ◌^◌, ◌<◌, ◌≤◌, Bool, true, false, ltb, length, refl, ap, arith, rules, ltb-false, ltb-true}
+use Rattle.std.proofs.Common.{◌≡◌, ℕ, zero, suc, ◌+◌, ◌%◌, ◌^◌, ◌<◌, ◌≤◌, Bool, true, false, ltb, length, refl, ap, arith, ltb-false, ltb-true}
 use lib.IntN.{sub_ℕ}
 use Rattle.varint.specs.Laws.Uleb128.{uleb_small}
 use Rattle.signed.specs.Signed.{zigzag_of}

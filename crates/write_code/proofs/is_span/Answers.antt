@@ -1,5 +1,5 @@
 -- `write_code::is_span` meets its contract: both words are the same.
-use Rattle.std.proofs.Common.{◌≡◌, Bool, true, false, ◌&&◌, refl, rules}
+use Rattle.std.proofs.Common.{◌≡◌, Bool, true, false, ◌&&◌, refl}
 use Rattle.payload.specs.Choice.{◌and◌}
 use Rattle.payload.specs.Spans.{same_span}
 use Rattle.write_code.proofs.is_span.Goals as goal

@@ -1,5 +1,5 @@
 -- `write_code::leading_trues` meets its contract: each test counts where it and all before it are true.
-use Rattle.std.proofs.Common.{arith, rules}
+use Rattle.std.proofs.Common.{arith}
 use Rattle.write_code.specs.Laws.Runs.{trues_sum}
 use Rattle.write_code.proofs.leading_trues.Goals as goal
 

@@ -1,8 +1,8 @@
 -- `write_code::run_end` meets its contract: the run ends among the first four followers, or goes on from the last of them.
-use Rattle.std.proofs.Common.{◌-◌, ◌/◌, length, sym, ◌∙◌, ⊎_elim, arith, rules}
+use Rattle.std.proofs.Common.{sym, ◌∙◌, arith}
 use borrow.Author.Tests.{not-true, not-false}
 use Rattle.write_code.specs.Runs.{span}
-use Rattle.write_code.specs.Laws.Runs.{RunTo, run_start, run_next, run_differs, run_last, trues_four, run_short, run_long}
+use Rattle.write_code.specs.Laws.Runs.{run_start, run_next, run_differs, run_last, trues_four, run_short, run_long}
 use Rattle.write_code.proofs.run_end.Goals.{then-count-k-ge5+else-n-lt4, else-count-k-ge5}
 use Rattle.write_code.proofs.run_end.Goals as goal
 

@@ -1,6 +1,6 @@
 -- `write_code::runs_length` meets its contract: the bytes of the runs before a span, and those of the run that is under way there.
-use Rattle.std.proofs.Common.{ℕ, ◌+◌, ◌-◌, ◌*◌, ◌/◌, ◌^◌, ◌<◌, length, ◌∙◌, ap₂, arith, rules}
-use Rattle.write_code.specs.Laws.Length.{Measured, measured_none, measured_start, measured_next, measured_end}
+use Rattle.std.proofs.Common.{ℕ, ◌+◌, ◌*◌, ◌∙◌, ap₂, arith}
+use Rattle.write_code.specs.Laws.Length.{measured_none, measured_start, measured_next, measured_end}
 use Rattle.write_code.proofs.runs_length.Goals as goal
 
 pub returns-then-count-eq0 : goal.returns-then-count-eq0

@@ -1,5 +1,5 @@
-use Rattle.std.proofs.Common.{ℕ, ◌+◌, ◌-◌, ◌*◌, ◌/◌, ◌^◌, ◌<◌, length, ◌∙◌, ap₂, arith, rules}
-use Rattle.write_code.specs.Laws.Length.{Measured, measured_none, measured_start, measured_next, measured_end}
+use Rattle.std.proofs.Common.{◌-◌, ◌/◌, ◌^◌, ◌<◌, length}
+use Rattle.write_code.specs.Laws.Length.{Measured}
 use Rattle.write_code.proofs.runs_length.Given as goal
 
 abbrev pub invariant-loop-k : goal.invariant-loop-k

@@ -1,5 +1,4 @@
 -- `write_code::write_code` meets its contract: the length, then the code.
-use Rattle.std.proofs.Common.{rules}
 use Rattle.emit.specs.Laws.Emit.{emitted_then}
 use Rattle.write_code.proofs.write_code.Goals as goal
 

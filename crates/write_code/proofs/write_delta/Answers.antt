@@ -1,5 +1,5 @@
 -- `write_code::write_delta` meets its contract: the ULEB128 of the zigzag is the definition's delta.
-use Rattle.std.proofs.Common.{ap, rules}
+use Rattle.std.proofs.Common.{ap}
 use Rattle.varint.specs.Uleb128.{uleb128}
 use Rattle.payload.specs.Spans.{write_delta}
 use Rattle.emit.specs.Laws.Emit.{emitted_as}

@@ -1,5 +1,5 @@
 -- `write_code::write_run` meets its contract: a delta is the ULEB128 of its zigzag.
-use Rattle.std.proofs.Common.{ℕ, ◌++◌, ap₂, rules}
+use Rattle.std.proofs.Common.{ℕ, ◌++◌, ap₂}
 use Rattle.varint.specs.Uleb128.{uleb128}
 use Rattle.payload.specs.Spans.{write_delta}
 use Rattle.emit.specs.Laws.Emit.{emitted_as}

@@ -1,10 +1,10 @@
 -- `write_code::write_runs` meets its contract: with no output the length is enough; else what is left to write is the runs from the next span on.
-use Rattle.std.proofs.Common.{◌+◌, ◌-◌, ◌*◌, ◌/◌, length, sym, ap, ◌∙◌, arith, rules}
+use Rattle.std.proofs.Common.{◌+◌, ◌*◌, sym, ap, ◌∙◌, arith}
 use Rattle.varint.specs.Uleb128.{uleb128}
-use Rattle.emit.specs.Emit.{output, emit, further}
+use Rattle.emit.specs.Emit.{further}
 use Rattle.emit.specs.Laws.Bytes.{emitted_past}
-use Rattle.emit.specs.Laws.Emit.{Emitting, emitting_start, emitting_ready, emitting_next, emitting_end, emitted_ready, emitted_then, emitted_as}
-use Rattle.write_code.specs.Laws.Runs.{Running, runs_from, runs_from_run, runs_from_end, runs_from_all}
+use Rattle.emit.specs.Laws.Emit.{emitting_start, emitting_ready, emitting_next, emitting_end, emitted_ready, emitted_then, emitted_as}
+use Rattle.write_code.specs.Laws.Runs.{runs_from_run, runs_from_end, runs_from_all}
 use Rattle.write_code.proofs.write_runs.Goals as goal
 
 pub returns-then-out-eq0 : goal.returns-then-out-eq0

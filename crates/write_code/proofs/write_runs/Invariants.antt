@@ -1,9 +1,7 @@
-use Rattle.std.proofs.Common.{◌+◌, ◌-◌, ◌*◌, ◌/◌, length, sym, ap, ◌∙◌, arith, rules}
-use Rattle.varint.specs.Uleb128.{uleb128}
-use Rattle.emit.specs.Emit.{output, emit, further}
-use Rattle.emit.specs.Laws.Bytes.{emitted_past}
-use Rattle.emit.specs.Laws.Emit.{Emitting, emitting_start, emitting_ready, emitting_next, emitting_end, emitted_ready, emitted_then, emitted_as}
-use Rattle.write_code.specs.Laws.Runs.{Running, runs_from, runs_from_run, runs_from_end, runs_from_all}
+use Rattle.std.proofs.Common.{◌-◌, ◌/◌, length}
+use Rattle.emit.specs.Emit.{output, emit}
+use Rattle.emit.specs.Laws.Emit.{Emitting}
+use Rattle.write_code.specs.Laws.Runs.{Running, runs_from}
 use Rattle.write_code.proofs.write_runs.Given as goal
 
 abbrev pub invariant-loop-k : goal.invariant-loop-k

@@ -1,5 +1,5 @@
 -- `write_code::zigzag_delta` meets its contract: two positions differ by less than 2 ^ 63.
-use Rattle.std.proofs.Common.{◌≡◌, ℕ, zero, suc, ◌^◌, ◌<◌, Bool, true, false, ltb, pos, ◌-ℤ◌, refl, ap, ◌∙◌, ap₂, arith, to_z-of_z, w64, SFits, to_z, rules}
+use Rattle.std.proofs.Common.{◌≡◌, ℕ, zero, suc, ◌^◌, ◌<◌, Bool, true, false, ltb, pos, ◌-ℤ◌, refl, ap, ◌∙◌, ap₂, arith, to_z-of_z, w64, SFits, to_z}
 use lib.IntN.{sub_ℕ}
 use lib.Signed.{mag}
 use mir.Facts.{to_z_pos}

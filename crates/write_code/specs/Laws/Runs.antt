@@ -6,7 +6,7 @@ use native.Mathlib.Omega.{arith}
 use Rattle.std.proofs.Math.Seq.{drop-nil}
 use Rattle.std.proofs.lemmas.Bool.{not-true, not-false}
 use Rattle.varint.specs.Uleb128.{uleb128}
-use Rattle.payload.specs.Choice.{if◌then◌else◌, ◌and◌}
+use Rattle.payload.specs.Choice.{when◌then◌else◌, ◌and◌}
 use Rattle.payload.specs.Laws.Pool.{and_left, and_right}
 use Rattle.payload.specs.Sound.{spans_of}
 use Rattle.payload.specs.Spans.{Span, Run, same_span, join, runs_of, write_delta, write_deltas, write_runs}
@@ -20,19 +20,19 @@ same_span_eq a b e = λ i. record { start = eqb-true a.start b.start (and_left _
 
 -- the first run, and the runs after it
 runs_first : (s : Span) (l : List Span) → runs_of (s ∷ l) ≡ record { span = s; count = suc (repeated s l) } ∷ runs_of (drop (repeated s l) l)
-unfolding runs_of join repeated if◌then◌else◌
+unfolding runs_of join repeated when◌then◌else◌
 runs_first s [] = refl
 runs_first s (t ∷ l) = ap (join s) (runs_first t l) ∙ go (runs_first t l) (same_span s t) refl
   where
     go : runs_of (t ∷ l) ≡ record { span = t; count = suc (repeated t l) } ∷ runs_of (drop (repeated t l) l) → (b : Bool) → same_span s t ≡ b
-        → if◌then◌else◌ b (record { span = s; count = suc (suc (repeated t l)) } ∷ runs_of (drop (repeated t l) l)) (record { span = s; count = 1 } ∷ record { span = t; count = suc (repeated t l) } ∷ runs_of (drop (repeated t l) l))
-        ≡ record { span = s; count = suc (if◌then◌else◌ b (suc (repeated s l)) 0) } ∷ runs_of (drop (if◌then◌else◌ b (suc (repeated s l)) 0) (t ∷ l))
+        → when◌then◌else◌ b (record { span = s; count = suc (suc (repeated t l)) } ∷ runs_of (drop (repeated t l) l)) (record { span = s; count = 1 } ∷ record { span = t; count = suc (repeated t l) } ∷ runs_of (drop (repeated t l) l))
+        ≡ record { span = s; count = suc (when◌then◌else◌ b (suc (repeated s l)) 0) } ∷ runs_of (drop (when◌then◌else◌ b (suc (repeated s l)) 0) (t ∷ l))
     go f true e = ap (λ (u : Span). record { span = s; count = suc (suc (repeated u l)) } ∷ runs_of (drop (repeated u l) l)) (sym (same_span_eq s t e))
     go f false e = ap (λ (rs : List Run). record { span = s; count = 1 } ∷ rs) (sym f)
 
 -- a span that differs from the next makes one run more
 count_next : (s t : Span) (l : List Span) (b : Bool) → same_span s t ≡ b → length (runs_of (s ∷ t ∷ l)) ≡ cond b 0 1 + length (runs_of (t ∷ l))
-unfolding join if◌then◌else◌
+unfolding join when◌then◌else◌
 count_next s t l b e =
     let f : runs_of (s ∷ t ∷ l) ≡ join s (runs_of (t ∷ l)) = unfold runs_of in refl in
     ap length (f ∙ ap (join s) (runs_first t l)) ∙ go b e ∙ ap (λ (rs : List Run). cond b 0 1 + length rs) (sym (runs_first t l))
@@ -46,28 +46,28 @@ count_next s t l b e =
 
 -- a run that ends among the first, and one that does not
 repeated_some : (s : Span) (l m : List Span) → repeated s l < length l → repeated s (l ++ m) ≡ repeated s l
-unfolding repeated if◌then◌else◌
+unfolding repeated when◌then◌else◌
 repeated_some s [] m h = absurd (omega arith)
 repeated_some s (t ∷ l) m h = go (repeated_some s l m) (same_span s t) h
   where
-    go : (repeated s l < length l → repeated s (l ++ m) ≡ repeated s l) → (b : Bool) → if◌then◌else◌ b (suc (repeated s l)) 0 < suc (length l)
-        → if◌then◌else◌ b (suc (repeated s (l ++ m))) 0 ≡ if◌then◌else◌ b (suc (repeated s l)) 0
+    go : (repeated s l < length l → repeated s (l ++ m) ≡ repeated s l) → (b : Bool) → when◌then◌else◌ b (suc (repeated s l)) 0 < suc (length l)
+        → when◌then◌else◌ b (suc (repeated s (l ++ m))) 0 ≡ when◌then◌else◌ b (suc (repeated s l)) 0
     go f true g = ap suc (f (omega arith))
     go f false g = refl
 
 repeated_all : (s : Span) (l m : List Span) → length l ≤ repeated s l → repeated s (l ++ m) ≡ length l + repeated s m
-unfolding repeated if◌then◌else◌
+unfolding repeated when◌then◌else◌
 repeated_all s [] m h = omega arith
 repeated_all s (t ∷ l) m h = go (repeated_all s l m) (same_span s t) h
   where
-    go : (length l ≤ repeated s l → repeated s (l ++ m) ≡ length l + repeated s m) → (b : Bool) → suc (length l) ≤ if◌then◌else◌ b (suc (repeated s l)) 0
-        → if◌then◌else◌ b (suc (repeated s (l ++ m))) 0 ≡ suc (length l) + repeated s m
+    go : (length l ≤ repeated s l → repeated s (l ++ m) ≡ length l + repeated s m) → (b : Bool) → suc (length l) ≤ when◌then◌else◌ b (suc (repeated s l)) 0
+        → when◌then◌else◌ b (suc (repeated s (l ++ m))) 0 ≡ suc (length l) + repeated s m
     go f true g = omega (arith, f (omega arith))
     go f false g = absurd (omega arith)
 
 -- the sum that counts four tests
 pub trues_sum : (p q r s : Bool) → cond p 1 0 + cond (p && q) 1 0 + cond ((p && q) && r) 1 0 + cond (((p && q) && r) && s) 1 0 ≡ leading_trues (p ∷ q ∷ r ∷ s ∷ [])
-unfolding leading_trues if◌then◌else◌
+unfolding leading_trues when◌then◌else◌
 trues_sum false q r s = refl
 trues_sum true false r s = refl
 trues_sum true true false s = refl
@@ -172,13 +172,13 @@ module _ (ws : List ℕ) (s : Span) (k : ℕ) where
   run_start h = record { from = omega arith; within = omega arith; is = refl }
 
   pub run_next : (l : ℕ) → RunTo ws s k l → l < length ws / 2 → same_span s (span_at ws l) ≡ true → RunTo ws s k (l + 1)
-  unfolding repeated if◌then◌else◌
+  unfolding repeated when◌then◌else◌
   run_next l t h e =
       let f : repeated s (spans_of (drop (2 * l) ws)) ≡ suc (repeated s (spans_of (drop (2 * (l + 1)) ws))) = rw (spans_next ws l h, e) in
       record { from = omega (arith, t.from); within = omega arith; is = omega (arith, t.is) }
 
   pub run_differs : (l : ℕ) → RunTo ws s k l → l < length ws / 2 → same_span s (span_at ws l) ≡ false → RunEnd ws s k l
-  unfolding repeated if◌then◌else◌
+  unfolding repeated when◌then◌else◌
   run_differs l t h e =
       let f : repeated s (spans_of (drop (2 * l) ws)) ≡ 0 = rw (spans_next ws l h, e) in
       record { from = t.from; within = t.within; is = omega (arith, t.is) }

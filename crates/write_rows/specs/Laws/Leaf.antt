@@ -3,7 +3,7 @@ use Rattle.std.specs.Prelude.{Bool, ◌≡◌, refl, ℕ, ◌+◌, ◌/◌, ◌�
 use mathlib.Core.List.{List, [], append-nil}
 use Rattle.std.proofs.Common.{sym, ◌∙◌, arith, ne_eqb}
 use Rattle.std.proofs.Math.Path.{ap}
-use Rattle.payload.specs.Choice.{if◌then◌else◌}
+use Rattle.payload.specs.Choice.{when◌then◌else◌}
 use Rattle.payload.specs.Spans.{Span}
 use Rattle.payload.specs.Writing.{tag_byte}
 use Rattle.emit.specs.Emit.{output_limit, Emitted}
@@ -18,7 +18,7 @@ use Rattle.write_rows.specs.declared.Place.{Place}
 
 -- an item that is no code has no spans
 item_plain : (s : List ℕ) (l : List (List ℕ)) (ss : List Span) (k a b : ℕ) → k < 7 → item_bytes s l [] k a b ≡ item_bytes s l ss k a b
-unfolding item_bytes if◌then◌else◌
+unfolding item_bytes when◌then◌else◌
 item_plain s l ss k a b h = rw (ne_eqb k 7 (λ e. omega arith))
 
 module _ (s pl rs : List ℕ) (i : ℕ) (under : under_form (row_word rs i 0) ≡ 0) {comparing : Bool} {p : List ℕ} where
@@ -28,7 +28,7 @@ module _ (s pl rs : List ℕ) (i : ℕ) (under : under_form (row_word rs i 0) �
       → f ≡ first_form t → a ≡ row_word rs i 1 → b ≡ row_word rs i 2 → Emitted comparing p o₁ o₂ at₁ at₂ (item_bytes s (pool_strings s pl) [] f a b)
       → g ≡ second_form t → w ≡ second_word t → c ≡ row_word rs i w → d ≡ row_word rs i (w + 1) → Emitted comparing p o₂ o₃ at₂ at₃ (item_bytes s (pool_strings s pl) [] g c d)
       → Emitted comparing p o o₃ at at₃ (head_bytes (held s pl rs []) i [])
-  unfolding head_bytes items_bytes if◌then◌else◌
+  unfolding head_bytes items_bytes when◌then◌else◌
   leaf_two h et x ef ea eb y eg ew ec ed z =
       let word = ew ∙ ap second_word et in
       rw under (emitted_then h (emitted_as (ap tag_byte et) x)
@@ -44,22 +44,22 @@ module _ (s pl rs : List ℕ) (i : ℕ) (under : under_form (row_word rs i 0) �
   leaf_one {g = g} h et x ef ea eb y eg n = leaf_two h et x ef ea eb y eg refl refl refl (emitted_as (none g _ _ n) (emitted_none y.reach))
     where
       none : (k a b : ℕ) → k ≡ 0 → [] ≡ item_bytes s (pool_strings s pl) [] k a b
-      none k a b e = rw e (unfold item_bytes if◌then◌else◌ in refl)
+      none k a b e = rw e (unfold item_bytes when◌then◌else◌ in refl)
 
 module _ (s pl rs : List ℕ) (i : ℕ) (under : under_form (row_word rs i 0) ≡ 0) where
   head_plain : (t : List ℕ) (ss : List Span) → head_bytes (held s pl rs []) i [] ≡ head_bytes (held s pl rs t) i ss
-  unfolding head_bytes items_bytes if◌then◌else◌
+  unfolding head_bytes items_bytes when◌then◌else◌
   head_plain t ss =
       let a = item_plain s (pool_strings s pl) ss (first_form (row_word rs i 0)) (row_word rs i 1) (row_word rs i 2) (leaf_form_low (row_word rs i 0) under) in
       let b = item_plain s (pool_strings s pl) ss (second_form (row_word rs i 0)) (row_word rs i (second_word (row_word rs i 0))) (row_word rs i (second_word (row_word rs i 0) + 1)) (second_form_low (row_word rs i 0)) in
       rw (under, a, b)
 
   span_same : (t : List ℕ) (j : ℕ) → j ≤ length t / 2 → span_after (held s pl rs t) i j ≡ j
-  unfolding span_after code_length if◌then◌else◌
+  unfolding span_after code_length when◌then◌else◌
   span_same t j h = let f = leaf_form_low (row_word rs i 0) under in rw (ne_eqb (first_form (row_word rs i 0)) 7 (λ e. omega arith)) (omega arith)
 
   walk_leaf : (t : List ℕ) (d j : ℕ) → j ≤ length t / 2 → walked (head_bytes (held s pl rs []) i []) (i + 1) j ≡ walk_row (held s pl rs t) (walk (held s pl rs t) d) i j
-  unfolding walk_row rows_under and_walk if◌then◌else◌
+  unfolding walk_row rows_under and_walk when◌then◌else◌
   walk_leaf t d j h =
       rw (under, walk_none (held s pl rs t) d (i + 1) (span_after (held s pl rs t) i j), span_same t j h, append-nil)
       (ap (λ (b : List ℕ). walked b (i + 1) j) (head_plain t (row_spans (held s pl rs t) i j)))

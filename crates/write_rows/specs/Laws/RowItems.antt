@@ -8,12 +8,12 @@ use Rattle.std.proofs.Math.ListN.{length, get_or, length-append}
 use Rattle.std.proofs.Math.Seq.{get_or-append-add}
 use borrow.Author.Tests.{leb-true, ltb-true}
 use Rattle.varint.specs.Uleb128.{uleb128}
-use Rattle.payload.specs.Choice.{if◌then◌else◌, ◌and◌}
+use Rattle.payload.specs.Choice.{when◌then◌else◌, ◌and◌}
 use Rattle.payload.specs.Demand3.{all_of}
 use Rattle.payload.specs.Laws.Pool.{and_left, and_right, false≢true}
-use Rattle.payload.specs.Laws.RoundTrip.{same_kind_eq}
+use Rattle.payload.proofs.Laws.RoundTrip.{same_kind_eq}
 use Rattle.payload.specs.Laws.Rules.{same_kind, same_kinds, item_sound}
-use Rattle.payload.specs.Laws.ScanWritten.{InItem, InItems, kind_bytes}
+use Rattle.payload.proofs.Laws.ScanWritten.{InItem, InItems, kind_bytes}
 use Rattle.payload.specs.Numbers.{NumberKind, u64, u32, u16, u8, i64, i32, i16, i8, bool, char, handle, f64, f32, fits_kind, write_number}
 use Rattle.payload.specs.Pool.{index_of}
 use Rattle.payload.specs.Reader.{Part}
@@ -62,7 +62,7 @@ fine_from (suc n) k h zero l = rw (add-zero k) (and_left _ _ h)
 fine_from (suc n) k h (suc i) l = let e : k + suc i ≡ suc k + i = omega arith in rw e (fine_from n (suc k) (and_right _ _ h) i (le_of_suc-le-suc l))
 
 fine_low : every_fine 35 0 ≡ true
-unfolding every_fine fine shape shapes if◌then◌else◌ ◌and◌ no_code code_first
+unfolding every_fine fine shape shapes when◌then◌else◌ ◌and◌ no_code code_first
 fine_low = refl
 
 pub fine_shape : (t : ℕ) → fine (shape t) ≡ true
@@ -85,7 +85,7 @@ AllSpanned (i ∷ is) ss = Spanned i ss × AllSpanned is ss
 
 module _ (s : List ℕ) (l : List (List ℕ)) (ss : List Span) where
   item_num : (k : NumberKind) (w b : ℕ) → fits_kind k w ≡ true → item_bytes s l ss (number_form k) w b ≡ write_number k w
-  unfolding item_bytes number_form write_number fits_kind if◌then◌else◌
+  unfolding item_bytes number_form write_number fits_kind when◌then◌else◌
   item_num u64 w b h = refl
   item_num u32 w b h = refl
   item_num u16 w b h = refl
@@ -104,13 +104,13 @@ module _ (s : List ℕ) (l : List (List ℕ)) (ss : List Span) where
       → item_bytes s l ss (item_form (kind_of x)) a b ≡ write_item l (forget_item x)
   unfolding item_words part_words InItem item_sound forget_item Spanned item_form kind_of write_item
   item_written (number k w) a b ws ea eb i h q = ap (λ (x : ℕ). item_bytes s l ss (number_form k) x b) ea ∙ item_num k w b h
-  item_written (string x) a b ws ea eb i h q = ap₂ (λ (m n : ℕ). item_bytes s l ss 6 m n) ea eb ∙ unfold item_bytes in (unfold if◌then◌else◌ in (unfold bytes_at in (ap (λ (y : List ℕ). uleb128 (index_of y l)) i.its_bytes)))
-  item_written (native_name x) a b ws ea eb i h q = ap₂ (λ (m n : ℕ). item_bytes s l ss 6 m n) ea eb ∙ unfold item_bytes in (unfold if◌then◌else◌ in (unfold bytes_at in (ap (λ (y : List ℕ). uleb128 (index_of y l)) i.its_bytes)))
-  item_written (record_name x) a b ws ea eb i h q = ap₂ (λ (m n : ℕ). item_bytes s l ss 6 m n) ea eb ∙ unfold item_bytes in (unfold if◌then◌else◌ in (unfold bytes_at in (ap (λ (y : List ℕ). uleb128 (index_of y l)) i.its_bytes)))
-  item_written (code x ts) a b ws ea eb i h q = ap₂ (λ (m n : ℕ). item_bytes s l ss 7 m n) ea eb ∙ unfold item_bytes in (unfold if◌then◌else◌ in (unfold bytes_at in (ap₂ write_code i.its_bytes q)))
+  item_written (string x) a b ws ea eb i h q = ap₂ (λ (m n : ℕ). item_bytes s l ss 6 m n) ea eb ∙ unfold item_bytes in (unfold when◌then◌else◌ in (unfold bytes_at in (ap (λ (y : List ℕ). uleb128 (index_of y l)) i.its_bytes)))
+  item_written (native_name x) a b ws ea eb i h q = ap₂ (λ (m n : ℕ). item_bytes s l ss 6 m n) ea eb ∙ unfold item_bytes in (unfold when◌then◌else◌ in (unfold bytes_at in (ap (λ (y : List ℕ). uleb128 (index_of y l)) i.its_bytes)))
+  item_written (record_name x) a b ws ea eb i h q = ap₂ (λ (m n : ℕ). item_bytes s l ss 6 m n) ea eb ∙ unfold item_bytes in (unfold when◌then◌else◌ in (unfold bytes_at in (ap (λ (y : List ℕ). uleb128 (index_of y l)) i.its_bytes)))
+  item_written (code x ts) a b ws ea eb i h q = ap₂ (λ (m n : ℕ). item_bytes s l ss 7 m n) ea eb ∙ unfold item_bytes in (unfold when◌then◌else◌ in (unfold bytes_at in (ap₂ write_code i.its_bytes q)))
 
   item_none : (a b : ℕ) → item_bytes s l ss 0 a b ≡ []
-  unfolding item_bytes if◌then◌else◌
+  unfolding item_bytes when◌then◌else◌
   item_none a b = refl
 
   length_item : (x : Item Part) → length (item_words x) ≡ kind_width (kind_of x)

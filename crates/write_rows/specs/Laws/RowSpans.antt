@@ -5,12 +5,12 @@ use Rattle.std.proofs.Math.Path.{refl, sym, ap}
 use Rattle.std.proofs.Common.{ap₂, ◌∙◌, arith}
 use Rattle.std.proofs.Math.ListN.{length}
 use borrow.Author.Tests.{eqb-true}
-use Rattle.payload.specs.Choice.{if◌then◌else◌}
+use Rattle.payload.specs.Choice.{when◌then◌else◌}
 use Rattle.payload.specs.Demand3.{all_of}
 use Rattle.payload.specs.Laws.Pool.{and_left, and_right, false≢true}
-use Rattle.payload.specs.Laws.RoundTrip.{same_kind_eq}
+use Rattle.payload.proofs.Laws.RoundTrip.{same_kind_eq}
 use Rattle.payload.specs.Laws.Rules.{same_kind, same_kinds, item_sound}
-use Rattle.payload.specs.Laws.ScanWritten.{InStore, InItem, InItems, kind_bytes}
+use Rattle.payload.proofs.Laws.ScanWritten.{InStore, InItem, InItems, kind_bytes}
 use Rattle.payload.specs.Numbers.{NumberKind, u64, u32, u16, u8, i64, i32, i16, i8, bool, char, handle, f64, f32}
 use Rattle.payload.specs.Reader.{Part}
 use Rattle.payload.specs.Rows.{part_words, item_words, items_words, items_spans}
@@ -75,7 +75,7 @@ no_spans (k ∷ kn) (x ∷ is) c q = let d = not_code k kn c in no_span x is (ap
 pub record Coded (s : List ℕ) (kn : List ItemKind) (is : List (Item Part)) (a b : ℕ) : Type 0 where
   pub spanned : AllSpanned is (items_spans is)
   pub many : span_items (forget_items is) ≡ length (items_spans is)
-  pub long : if◌then◌else◌ (eqb (first_of kn) 7) (length (bytes_at s a b)) 0 ≡ span_items (forget_items is)
+  pub long : when◌then◌else◌ (eqb (first_of kn) 7) (length (bytes_at s a b)) 0 ≡ span_items (forget_items is)
 
 no_spanned : (kn : List ItemKind) (is : List (Item Part)) (ss : List Span) → no_code kn ≡ true → same_kinds kn (forget_items is) ≡ true → AllSpanned is ss
 unfolding same_kinds forget_items AllSpanned
@@ -126,7 +126,7 @@ cf_rest ItemKind.code kn c = c
 module _ (s : List ℕ) where
   coded_plain : (k : ItemKind) (kn : List ItemKind) (x : Item Part) (is : List (Item Part)) (a b : ℕ)
       → k ≡ kind_of x → is_code (kind_of x) ≡ false → no_code kn ≡ true → same_kinds kn (forget_items is) ≡ true → Spanned x (items_spans (x ∷ is)) → Coded s (k ∷ kn) (x ∷ is) a b
-  unfolding AllSpanned first_of if◌then◌else◌
+  unfolding AllSpanned first_of when◌then◌else◌
   coded_plain k kn x is a b e c n q p = let bare = no_span x is c (no_spans kn is n q) in record {
     spanned = (p, no_spanned kn is _ n q);
     many = bare.1 ∙ sym (ap length bare.0);
@@ -135,7 +135,7 @@ module _ (s : List ℕ) where
 
   coded_code : (k : ItemKind) (kn : List ItemKind) (l : Part) (ss : List Span) (is : List (Item Part)) (a b : ℕ) (ws : List ℕ) → k ≡ ItemKind.code → no_code kn ≡ true → same_kinds kn (forget_items is) ≡ true → InStore s l
       → eqb (length ss) (length l.bytes) ≡ true → a ≡ l.offset → b ≡ length l.bytes → Coded s (k ∷ kn) (code l ss ∷ is) a b
-  unfolding AllSpanned Spanned first_of item_form if◌then◌else◌ items_spans span_items span_item forget_items forget_item bytes_at
+  unfolding AllSpanned Spanned first_of item_form when◌then◌else◌ items_spans span_items span_item forget_items forget_item bytes_at
   coded_code k kn l ss is a b ws e n q i z ea eb =
       let bare = no_spans kn is n q in
       let all-spans : ss ++ items_spans is ≡ ss = ap (λ (v : List Span). ss ++ v) bare.0 ∙ append-nil ss in
@@ -149,7 +149,7 @@ module _ (s : List ℕ) where
   pub coded : (kn : List ItemKind) (is : List (Item Part)) (ws : List ℕ) (a b : ℕ) → code_first kn ≡ true → same_kinds kn (forget_items is) ≡ true → InItems s is → all_of item_sound (forget_items is) ≡ true
       → a ≡ get_or (items_words is ++ ws) 0 0 → b ≡ get_or (items_words is ++ ws) 1 0 → Coded s kn is a b
   unfolding same_kinds forget_items forget_item InItems InItem all_of item_sound items_words item_words part_words
-  coded [] [] ws a b c q i h ea eb = record { spanned = unfold AllSpanned in tt; many = unfold span_items items_spans in refl; long = unfold first_of if◌then◌else◌ span_items in refl }
+  coded [] [] ws a b c q i h ea eb = record { spanned = unfold AllSpanned in tt; many = unfold span_items items_spans in refl; long = unfold first_of when◌then◌else◌ span_items in refl }
   coded [] (x ∷ is) ws a b c q i h ea eb = false≢true q
   coded (k ∷ kn) [] ws a b c q i h ea eb = false≢true q
   coded (k ∷ kn) (number n w ∷ is) ws a b c q i h ea eb = coded_plain k kn (number n w) is a b (of_kind k (number n w) (and_left _ _ q)) (unfold is_code kind_of in refl) (cf_rest k kn c) (and_right _ _ q) (unfold Spanned in tt)

@@ -10,19 +10,19 @@ use Rattle.std.proofs.Math.Dec.{eqb}
 use Rattle.std.proofs.Math.ListN.{length, get_or, drop, replicate, length-append, length-replicate, length-drop}
 use Rattle.std.proofs.Math.Seq.{get_or-append-add, drop_at}
 use Rattle.varint.specs.Uleb128.{uleb128}
-use Rattle.payload.specs.Choice.{if◌then◌else◌, ◌and◌}
+use Rattle.payload.specs.Choice.{when◌then◌else◌, ◌and◌}
 use Rattle.payload.specs.Demand3.{all_of, all_items}
-use Rattle.payload.specs.Laws.Given.{length_span_words}
+use Rattle.payload.proofs.Laws.Given.{length_span_words}
 use Rattle.payload.specs.Laws.Pool.{and_left, and_right, false≢true}
 use Rattle.payload.specs.Laws.Rules.{Root, roots, same_kinds, distinct_pairs, kids_rule, row_rule, item_sound}
-use Rattle.payload.specs.Laws.ScanWritten.{InItems, InTrees, count_roots}
-use Rattle.payload.specs.Laws.SoundTables.{row_width_lem}
+use Rattle.payload.proofs.Laws.ScanWritten.{InItems, InTrees, count_roots}
+use Rattle.payload.proofs.Laws.SoundTables.{row_width_lem}
 use Rattle.payload.specs.Reader.{Part}
 use Rattle.payload.specs.Rows.{items_words, kinds_width, kids_count_words, count_words, unused_words, row_words, items_spans, root_count, row_table, row_width, span_table}
 use Rattle.payload.specs.Shapes.{ItemKind, no_value, one_value, values, keys, pairs, Shape, with_kids, with_chunk, with_fields, with_template, shape, kinds_of}
 use Rattle.payload.specs.Spans.{Span}
 use Rattle.payload.specs.Tables.{span_words}
-use Rattle.payload.specs.Trees.{Item, number, string, native_name, record_name, code, forget_items, forget_trees, Trees, nil, node, span_items, span_count, size}
+use Rattle.payload.specs.Trees.{Item, key_of, forget_items, forget_trees, Trees, nil, node, span_items, span_count, size}
 use Rattle.payload.specs.Writing.{write_items, write_trees, concat, write_kids, write_row, tag_byte}
 use Rattle.row_layout.specs.Layout.{kids_form, shape_form, first_form, second_form, second_word, under_form, count_word}
 use Rattle.write_rows.specs.Walk.{Held, row_count, row_word, items_bytes, head_bytes, rows_under, code_length, span_after, row_spans, Walked, walked, and_walk, walk_times, walk_next, walk_row, walk}
@@ -66,7 +66,7 @@ even : (seen : List (List ℕ)) (rs : List Root) → distinct_pairs seen rs ≡ 
 unfolding distinct_pairs
 even seen [] h = refl
 even seen (r ∷ []) h = false≢true h
-even seen (r ∷ v ∷ rs) h = let g = even _ rs (and_right _ _ (and_right _ _ h)) in omega arith
+even seen (r ∷ v ∷ rs) h = let g = even (key_of r.tag r.items ∷ seen) rs (and_right _ _ (and_right _ _ h)) in omega arith
 
 length_written : (l : List (List ℕ)) (ts : Trees Part) → length (write_trees l (forget_trees ts)) ≡ root_count ts
 unfolding write_trees forget_trees root_count
@@ -110,15 +110,15 @@ module _ (s : List ℕ) (l : List (List ℕ)) (R S : List ℕ) where
 
   -- of the row i with the tag t, by the form v of what is under it: the bytes of its count, and how many are under it
   abbrev count_bytes : ℕ → ℕ → ℕ → List ℕ
-  count_bytes t i v = if◌then◌else◌ (leb 2 v) (uleb128 (row_word R i (count_word t))) []
+  count_bytes t i v = when◌then◌else◌ (leb 2 v) (uleb128 (row_word R i (count_word t))) []
 
   abbrev beneath : ℕ → ℕ → ℕ → ℕ
-  beneath t i v = if◌then◌else◌ (eqb v 0) 0 (if◌then◌else◌ (eqb v 1) 1 (if◌then◌else◌ (eqb v 3) (2 * min (row_word R i (count_word t)) u) (min (row_word R i (count_word t)) u)))
+  beneath t i v = when◌then◌else◌ (eqb v 0) 0 (when◌then◌else◌ (eqb v 1) 1 (when◌then◌else◌ (eqb v 3) (2 * min (row_word R i (count_word t)) u) (min (row_word R i (count_word t)) u)))
 
   module _ (t : ℕ) (is : List (Item Part)) (n i : ℕ) (rest : List ℕ) (here : drop (row_width * i) R ≡ row_words t is n ++ rest) (kinds : same_kinds (kinds_of (shape t)) (forget_items is) ≡ true)
       (ins : InItems s is) (all : all_of item_sound (forget_items is) ≡ true) where
     word_is : (k : ℕ) → k < row_width → row_word R i k ≡ get_or (row_words t is n ++ rest) k 0
-    unfolding row_word if◌then◌else◌
+    unfolding row_word when◌then◌else◌
     word_is k h = rw (lt-ltb k row_width h) (sym (get_or-drop (row_width * i) R k 0) ∙ ap (λ (v : List ℕ). get_or v k 0) here)
 
     tag_is : row_word R i 0 ≡ t
@@ -187,17 +187,17 @@ module _ (s : List ℕ) (l : List (List ℕ)) (R S : List ℕ) where
       unfoldable pub tail : List ℕ
       tail = written is ++ count_bytes t i (under_form t)
 
-      before_is : head_bytes H i (row_spans H i j) ≡ tag_byte t ++ if◌then◌else◌ (eqb (under_form t) 4) [] tail
+      before_is : head_bytes H i (row_spans H i j) ≡ tag_byte t ++ when◌then◌else◌ (eqb (under_form t) 4) [] tail
       unfolding head_bytes tail
-      before_is = ap (λ (v : List Span). tag_byte (row_word R i 0) ++ if◌then◌else◌ (eqb (under_form (row_word R i 0)) 4) [] (items_bytes H i v)) spans_of_lem
-          ∙ ap (λ (v : List ℕ). tag_byte (row_word R i 0) ++ if◌then◌else◌ (eqb (under_form (row_word R i 0)) 4) [] v) items_are
-          ∙ ap (λ (k : ℕ). tag_byte k ++ if◌then◌else◌ (eqb (under_form k) 4) [] (written is ++ count_bytes t i (under_form t))) tag_is
+      before_is = ap (λ (v : List Span). tag_byte (row_word R i 0) ++ when◌then◌else◌ (eqb (under_form (row_word R i 0)) 4) [] (items_bytes H i v)) spans_of_lem
+          ∙ ap (λ (v : List ℕ). tag_byte (row_word R i 0) ++ when◌then◌else◌ (eqb (under_form (row_word R i 0)) 4) [] v) items_are
+          ∙ ap (λ (k : ℕ). tag_byte k ++ when◌then◌else◌ (eqb (under_form k) 4) [] (written is ++ count_bytes t i (under_form t))) tag_is
 
       module _ (f : ℕ → ℕ → ℕ → Walked) (es : List (List ℕ)) (i' j' : ℕ) where
         -- a row that is no closure
         pub row_plain : (b : ℕ) → eqb (under_form t) 4 ≡ false → rows_under H i ≡ b → f b (i + 1) (j + span_items (forget_items is)) ≡ walked (concat es) i' j' → write_row (written is) (shape t) es ≡ tail ++ concat es
             → walk_row H f i j ≡ walked (tag_byte t ++ write_row (written is) (shape t) es) i' j'
-        unfolding walk_row and_walk if◌then◌else◌
+        unfolding walk_row and_walk when◌then◌else◌
         row_plain b c e g a =
             let head : head_bytes H i (row_spans H i j) ≡ tag_byte t ++ tail = before_is ∙ rw c in
             let c' : eqb (under_form (row_word R i 0)) 4 ≡ false = ap (λ (k : ℕ). eqb (under_form k) 4) tag_is ∙ c in
@@ -216,17 +216,17 @@ module _ (s : List ℕ) (l : List (List ℕ)) (R S : List ℕ) where
         -- a row with no count: so many under it
         row_bare : (v b : ℕ) → under_form t ≡ v → eqb v 4 ≡ false → leb 2 v ≡ false → rows_under H i ≡ b → f b (i + 1) (j + span_items (forget_items is)) ≡ walked (concat es) i' j'
             → write_row (written is) (shape t) es ≡ written is ++ concat es → walk_row H f i j ≡ walked (tag_byte t ++ write_row (written is) (shape t) es) i' j'
-        unfolding if◌then◌else◌
+        unfolding when◌then◌else◌
         row_bare v b ev c m e g a =
-            let z : tail ≡ written is = tail_is v ev ∙ ap (λ (k : Bool). written is ++ if◌then◌else◌ k (uleb128 (row_word R i (count_word t))) []) m ∙ append-nil (written is) in
+            let z : tail ≡ written is = tail_is v ev ∙ ap (λ (k : Bool). written is ++ when◌then◌else◌ k (uleb128 (row_word R i (count_word t))) []) m ∙ append-nil (written is) in
             row_plain b (ap (λ (k : ℕ). eqb k 4) ev ∙ c) e g (a ∙ ap (λ (x : List ℕ). x ++ concat es) (sym z))
 
         -- a row with a count
         row_counted : (v b c : ℕ) → under_form t ≡ v → eqb v 4 ≡ false → leb 2 v ≡ true → row_word R i (count_word t) ≡ c → rows_under H i ≡ b → f b (i + 1) (j + span_items (forget_items is)) ≡ walked (concat es) i' j'
             → write_row (written is) (shape t) es ≡ written is ++ (uleb128 c ++ concat es) → walk_row H f i j ≡ walked (tag_byte t ++ write_row (written is) (shape t) es) i' j'
-        unfolding if◌then◌else◌
+        unfolding when◌then◌else◌
         row_counted v b c ev q m ec e g a =
-            let z : tail ≡ written is ++ uleb128 c = tail_is v ev ∙ ap (λ (k : Bool). written is ++ if◌then◌else◌ k (uleb128 (row_word R i (count_word t))) []) m ∙ ap (λ (k : ℕ). written is ++ uleb128 k) ec in
+            let z : tail ≡ written is ++ uleb128 c = tail_is v ev ∙ ap (λ (k : Bool). written is ++ when◌then◌else◌ k (uleb128 (row_word R i (count_word t))) []) m ∙ ap (λ (k : ℕ). written is ++ uleb128 k) ec in
             row_plain b (ap (λ (k : ℕ). eqb k 4) ev ∙ q) e g
             (a ∙ sym (append_assoc (written is) (uleb128 c) (concat es)) ∙ ap (λ (x : List ℕ). x ++ concat es) (sym z))
 
@@ -234,11 +234,11 @@ module _ (s : List ℕ) (l : List (List ℕ)) (R S : List ℕ) where
       row_closure : (f : ℕ → ℕ → ℕ → Walked) (e : List ℕ) (es : List (List ℕ)) (i₁ j₁ i' j' b c : ℕ) → under_form t ≡ 4 → items_spans is ≡ [] → row_word R i (count_word t) ≡ c → rows_under H i ≡ b
           → f 1 (i + 1) (j + span_items (forget_items is)) ≡ walked e i₁ j₁ → f b i₁ j₁ ≡ walked (concat es) i' j'
           → walk_row H f i j ≡ walked (tag_byte t ++ (e ++ (written is ++ (uleb128 c ++ concat es)))) i' j'
-      unfolding walk_row and_walk if◌then◌else◌
+      unfolding walk_row and_walk when◌then◌else◌
       row_closure f e es i₁ j₁ i' j' b c ev bare ec eb g h =
-          let head : head_bytes H i (row_spans H i j) ≡ tag_byte t ++ [] = before_is ∙ ap (λ (v : ℕ). tag_byte t ++ if◌then◌else◌ (eqb v 4) [] tail) ev in
+          let head : head_bytes H i (row_spans H i j) ≡ tag_byte t ++ [] = before_is ∙ ap (λ (v : ℕ). tag_byte t ++ when◌then◌else◌ (eqb v 4) [] tail) ev in
           let c' : eqb (under_form (row_word R i 0)) 4 ≡ true = ap (λ (k : ℕ). eqb (under_form k) 4) tag_is ∙ ap (λ (v : ℕ). eqb v 4) ev in
-          let own : items_bytes H i [] ≡ written is ++ uleb128 c = ap (items_bytes H i) (sym bare) ∙ items_are ∙ ap₂ (λ (v k : ℕ). written is ++ if◌then◌else◌ (leb 2 v) (uleb128 k) []) ev ec in
+          let own : items_bytes H i [] ≡ written is ++ uleb128 c = ap (items_bytes H i) (sym bare) ∙ items_are ∙ ap₂ (λ (v k : ℕ). written is ++ when◌then◌else◌ (leb 2 v) (uleb128 k) []) ev ec in
           let k : f 1 (i + 1) (span_after H i j) ≡ walked e i₁ j₁ = ap (f 1 (i + 1)) span_to ∙ g in
           rw c' (ap₂ (λ (v : List ℕ) (w : Walked). let y = f (rows_under H i) w.row w.span in walked (v ++ (w.bytes ++ (items_bytes H i [] ++ y.bytes))) y.row y.span) head k
           ∙ ap₂ (λ (v : List ℕ) (m : ℕ). walked ((tag_byte t ++ []) ++ (e ++ (v ++ (f m i₁ j₁).bytes))) (f m i₁ j₁).row (f m i₁ j₁).span) own eb
@@ -273,7 +273,7 @@ module _ (s : List ℕ) (l : List (List ℕ)) (R S : List ℕ) where
 
     closure_row_lem : (ks : Trees Part) (here : drop (row_width * i) R ≡ row_words t is (root_count ks) ++ rest) → size ks ≤ u → row_rule (with_template kn) (forget_items is) (roots (forget_trees ks)) ≡ true
         → WalkIs d ks (i + 1) (j + span_items (forget_items is)) → walk_row H (walk H d) i j ≡ walked (first_bytes t is ks) (i + 1 + size ks) (j + span_items (forget_items is) + span_count (forget_trees ks))
-    unfolding row_rule roots forget_trees Parts root_count size span_count write_trees count_words write_row shape_form if◌then◌else◌
+    unfolding row_rule roots forget_trees Parts root_count size span_count write_trees count_words write_row shape_form when◌then◌else◌
     closure_row_lem nil here small r w = false≢true r
     closure_row_lem (node ft fi fk ks) here small r w =
         let v : under_form t ≡ 4 = unfold under_form in (ap shape_form e) in
@@ -338,7 +338,7 @@ module _ (s : List ℕ) (l : List (List ℕ)) (R S : List ℕ) where
     -- a row that counts the rows under it
     listed_row : (sh : Shape) → shape t ≡ sh → shape_form sh ≡ 2 → count_words sh (root_count ks) ≡ root_count ks ∷ [] → write_row (written is) sh es ≡ written is ++ (uleb128 (length es) ++ concat es)
         → same_kinds (kinds_of (shape t)) (forget_items is) ≡ true → WalkIs d ks (i + 1) (j + span_items (forget_items is)) → walk_row H (walk H d) i j ≡ walked (first_bytes t is ks) i₁ j₁
-    unfolding if◌then◌else◌
+    unfolding when◌then◌else◌
     listed_row sh e f c o q w =
         let v : under_form t ≡ 2 = unfold under_form in (ap shape_form e ∙ f) in
         let cnt = count_is t is (root_count ks) i rest here q ins all (root_count ks) [] (ap (λ (x : Shape). count_words x (root_count ks)) e ∙ c) in
@@ -347,7 +347,7 @@ module _ (s : List ℕ) (l : List (List ℕ)) (R S : List ℕ) where
 
     one_row : (sh : Shape) → shape t ≡ sh → same_kinds (kinds_of (shape t)) (forget_items is) ≡ true → row_rule sh (forget_items is) (roots (forget_trees ks)) ≡ true → WalkIs d ks (i + 1) (j + span_items (forget_items is))
         → walk_row H (walk H d) i j ≡ walked (first_bytes t is ks) i₁ j₁
-    unfolding row_rule kids_rule shape_form kids_form write_kids count_words kids_count_words write_row if◌then◌else◌
+    unfolding row_rule kids_rule shape_form kids_form write_kids count_words kids_count_words write_row when◌then◌else◌
     one_row (with_kids kn no_value) e q r w =
         let v : under_form t ≡ 0 = unfold under_form in (ap shape_form e) in
         bare_row 0 v refl refl q (sym (none_under (and_right _ _ r))) w (ap (λ (x : Shape). write_row (written is) x es) e)
@@ -394,7 +394,7 @@ module _ (s : List ℕ) (l : List (List ℕ)) (R S : List ℕ) where
   walk_none (suc d) i j = refl
 
   walk_more : (d n i j : ℕ) (b c : List ℕ) (i₁ j₁ i₂ j₂ : ℕ) → i < u → walk_row H (walk H d) i j ≡ walked b i₁ j₁ → walk H (suc d) n i₁ j₁ ≡ walked c i₂ j₂ → walk H (suc d) (suc n) i j ≡ walked (b ++ c) i₂ j₂
-  unfolding walk walk_times walk_next and_walk if◌then◌else◌
+  unfolding walk walk_times walk_next and_walk when◌then◌else◌
   walk_more d n i j b c i₁ j₁ i₂ j₂ h e g = rw (lt-ltb i u h) (ap (λ (w : Walked). and_walk w (walk_times (walk_next H (walk H d)) n)) e ∙ ap (λ (w : Walked). walked (b ++ w.bytes) w.row w.span) g)
 
   pub walks : (d : ℕ) (ts : Trees Part) (i j : ℕ) (rest rest' : List ℕ) → drop (row_width * i) R ≡ row_table ts ++ rest → drop (2 * j) S ≡ span_words (span_table ts) ++ rest' → j ≤ length S / 2 → i + size ts ≤ u → tall ts ≤ d

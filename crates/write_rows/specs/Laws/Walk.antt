@@ -1,12 +1,12 @@
 -- Laws of the walk: equations that the code's tests give, one stretch of a walk after another, the loop over rows, and a row.
-use Rattle.std.specs.Prelude.{Bool, true, false, List, [], ◌∷◌, ◌++◌, ◌≡◌, ℕ, zero, suc, ◌+◌, ◌-◌, ◌*◌, ◌/◌, ◌^◌, ◌≤◌, ◌<◌, leb, ltb, eqb, get_or, take, drop}
+use Rattle.std.specs.Prelude.{Bool, true, false, List, [], ◌++◌, ◌≡◌, ℕ, zero, suc, ◌+◌, ◌-◌, ◌*◌, ◌/◌, ◌^◌, ◌≤◌, ◌<◌, leb, ltb, eqb, get_or, take, drop}
 use Rattle.std.proofs.Math.Path.{refl, ap, ap₂}
 use Rattle.std.proofs.Common.{sym, ◌∙◌, subst, length-take, get_or-take, get_or-drop}
 use native.Mathlib.Omega.{arith}
 use Rattle.std.proofs.Math.ListN.{length, get_or-eq_default}
 use borrow.Author.Tests.{le-leb, lt-leb, eq-eqb, ne_eqb, lt-ltb, le-ltb, ltb-true, ltb-false}
 use Rattle.varint.specs.Uleb128.{uleb128}
-use Rattle.payload.specs.Choice.{if◌then◌else◌}
+use Rattle.payload.specs.Choice.{when◌then◌else◌}
 use Rattle.payload.specs.Sound.{spans_of}
 use Rattle.payload.specs.Spans.{Span}
 use Rattle.emit.specs.Emit.{output, emit, output_limit, stopped, Ready, Emitted}
@@ -24,23 +24,23 @@ item_as s l ss p q r = λ i. item_bytes s l ss (p i) (q i) (r i)
 
 -- a number's bytes need neither store nor pool nor spans, nor a second word
 pub item_number : (s : List ℕ) (l : List (List ℕ)) (ss : List Span) (k a b : ℕ) → k < 6 → item_bytes [] [] [] k a 0 ≡ item_bytes s l ss k a b
-unfolding item_bytes if◌then◌else◌
+unfolding item_bytes when◌then◌else◌
 item_number s l ss k a b h = rw (ne_eqb k 6 (λ e. omega arith), ne_eqb k 7 (λ e. omega arith))
 
-pub count_yes : {u u' c c' : ℕ} → u ≡ u' → 2 ≤ u → c ≡ c' → uleb128 c ≡ if◌then◌else◌ (leb 2 u') (uleb128 c') []
-unfolding if◌then◌else◌
+pub count_yes : {u u' c c' : ℕ} → u ≡ u' → 2 ≤ u → c ≡ c' → uleb128 c ≡ when◌then◌else◌ (leb 2 u') (uleb128 c') []
+unfolding when◌then◌else◌
 count_yes {u} {u'} {c} {c'} e h f = rw (← e, le-leb 2 u h) (ap uleb128 f)
 
-pub count_no : (c : ℕ) {u u' : ℕ} → u ≡ u' → u < 2 → [] ≡ if◌then◌else◌ (leb 2 u') (uleb128 c) []
-unfolding if◌then◌else◌
+pub count_no : (c : ℕ) {u u' : ℕ} → u ≡ u' → u < 2 → [] ≡ when◌then◌else◌ (leb 2 u') (uleb128 c) []
+unfolding when◌then◌else◌
 count_no c {u} {u'} e h = rw (← e, lt-leb 2 u h)
 
-pub is_yes : {A : Type 0} (a b : A) {u u' n : ℕ} → u ≡ u' → u ≡ n → a ≡ if◌then◌else◌ (eqb u' n) a b
-unfolding if◌then◌else◌
+pub is_yes : {A : Type 0} (a b : A) {u u' n : ℕ} → u ≡ u' → u ≡ n → a ≡ when◌then◌else◌ (eqb u' n) a b
+unfolding when◌then◌else◌
 is_yes {A} a b {u} {u'} {n} e h = rw (← e, eq-eqb u n h)
 
-pub is_no : {A : Type 0} (a b : A) (n : ℕ) {u u' : ℕ} → u ≡ u' → (u ≡ n → ⊥) → b ≡ if◌then◌else◌ (eqb u' n) a b
-unfolding if◌then◌else◌
+pub is_no : {A : Type 0} (a b : A) (n : ℕ) {u u' : ℕ} → u ≡ u' → (u ≡ n → ⊥) → b ≡ when◌then◌else◌ (eqb u' n) a b
+unfolding when◌then◌else◌
 is_no {A} a b n {u} {u'} e h = rw (← e, ne_eqb u n h)
 
 pub positions_part : (ws : List ℕ) (n a : ℕ) → Positions ws → Positions (take n (drop a ws))
@@ -87,7 +87,7 @@ pub record Loop (comparing : Bool) (p : List ℕ) (many : ℕ) (F : ℕ → ℕ 
   pub upto : k ≤ count
 
 times_past : (H : Held) (f : ℕ → ℕ → ℕ → Walked) (n i j : ℕ) → row_count H.rows ≤ i → walk_times (walk_next H f) n i j ≡ walked [] i j
-unfolding walk_times walk_next and_walk if◌then◌else◌
+unfolding walk_times walk_next and_walk when◌then◌else◌
 times_past H f zero i j h = refl
 times_past H f (suc n) i j h = rw (le-ltb i (row_count H.rows) h) (times_past H f n i j h)
 
@@ -119,7 +119,7 @@ module _ {comparing : Bool} {p : List ℕ} {many : ℕ} (H : Held) (f : ℕ → 
       }
     where
       is_row : (i j : ℕ) → i < row_count H.rows → walk_next H f i j ≡ walk_row H f i j
-      is_row i j u = unfold walk_next in (rw (lt-ltb i (row_count H.rows) u) (unfold if◌then◌else◌ in refl))
+      is_row i j u = unfold walk_next in (rw (lt-ltb i (row_count H.rows) u) (unfold when◌then◌else◌ in refl))
 
       more : (n i j : ℕ) → walk_times (walk_next H f) (suc n) i j ≡ and_walk (walk_next H f i j) (walk_times (walk_next H f) n)
       more n i j = unfold walk_times in refl
@@ -187,7 +187,7 @@ module _ (s pl rs t : List ℕ) {comparing : Bool} {p : List ℕ} where
   pub row_reached : (f : ℕ → ℕ → ℕ → Walked) {o o' o'' : List ℕ} {st m r : Place} {n v : ℕ} → length o ≤ output_limit comparing → v ≡ under_form (row_word rs st.row 0) → (v ≡ 4 → ⊥) → n ≡ rows_under (held [] [] rs []) st.row
       → Reached comparing p o o' (length t / 2) st m (walked (head_bytes (held s pl rs t) st.row (row_spans (held s pl rs t) st.row st.span)) (st.row + 1) (span_after (held s pl rs t) st.row st.span))
       → Reached comparing p o' o'' (length t / 2) m r (f n m.row m.span) → Reached comparing p o o'' (length t / 2) st r (walk_row (held s pl rs t) f st.row st.span)
-  unfolding walk_row if◌then◌else◌
+  unfolding walk_row when◌then◌else◌
   row_reached f {st = st} {n = n} {v = v} h e ne en a b = rw (← e, ne_eqb v 4 ne, ← (en ∙ under_held s pl rs t st.row)) (reached_then (f n) h a b)
 
   pub closure_reached : (f : ℕ → ℕ → ℕ → Walked) {o o' o'' o''' o'''' : List ℕ} {st m m' m'' r : Place} {n v : ℕ} → length o ≤ output_limit comparing → v ≡ under_form (row_word rs st.row 0) → v ≡ 4 → n ≡ rows_under (held [] [] rs []) st.row
@@ -195,7 +195,7 @@ module _ (s pl rs t : List ℕ) {comparing : Bool} {p : List ℕ} where
       → Reached comparing p o' o'' (length t / 2) m m' (f 1 m.row m.span)
       → m''.row ≡ m'.row → m''.span ≡ m'.span → Emitted comparing p o'' o''' m'.at m''.at (items_bytes (held s pl rs []) st.row [])
       → Reached comparing p o''' o'''' (length t / 2) m'' r (f n m''.row m''.span) → Reached comparing p o o'''' (length t / 2) st r (walk_row (held s pl rs t) f st.row st.span)
-  unfolding walk_row if◌then◌else◌
+  unfolding walk_row when◌then◌else◌
   closure_reached f {o} {o'} {o''} {o'''} {o''''} {st} {m} {m'} {m''} {r} {n} {v} h e y en a b er es c d =
       let mid : Reached comparing p o'' o''' (length t / 2) m' m'' (walked (items_bytes (held s pl rs t) st.row []) m'.row m'.span) =
       record { wrote = emitted_as (items_held s pl rs t st.row) c; row = er; span = es; within = omega (arith, b.within, es) } in

@@ -8,12 +8,12 @@ use Rattle.std.proofs.Common.{◌∙◌, arith}
 use Rattle.std.proofs.Math.ListN.{get_or-eq_default}
 use borrow.Author.Tests.{leb-false, ltb-true, eqb-true}
 use Rattle.varint.specs.Uleb128.{uleb128}
-use Rattle.payload.specs.Choice.{if◌then◌else◌, ◌and◌}
+use Rattle.payload.specs.Choice.{when◌then◌else◌, ◌and◌}
 use Rattle.payload.specs.Demand3.{all_items}
-use Rattle.payload.specs.Laws.Given.{small_span_table}
+use Rattle.payload.proofs.Laws.Given.{small_span_table}
 use Rattle.payload.specs.Laws.Pool.{and_left, and_right, and_both, false≢true}
 use Rattle.payload.specs.Laws.Rules.{Root, roots, all_tags, all_values, kids_rule, row_rule, obey_rules, item_sound}
-use Rattle.payload.specs.Laws.SoundTables.{InLine, sound_holds, sound_script_lem, obeyed_width}
+use Rattle.payload.proofs.Laws.SoundTables.{InLine, sound_holds, sound_script_lem, obeyed_width}
 use Rattle.payload.specs.Reader.{Part, State, ok}
 use Rattle.payload.specs.Rows.{root_count, row_table, span_table}
 use Rattle.payload.specs.Shapes.{no_value, with_kids, shape, shapes}
@@ -34,7 +34,7 @@ use Rattle.write_rows.specs.Laws.TreeWalk.{tall, ruled, walks}
 
 -- a row that is no value has only values under it
 under_other : (t : ℕ) (is : List (Item (List ℕ))) (rs : List Root) → leb t 26 ≡ false → row_rule (shape t) is rs ≡ true → all_values rs ≡ true
-unfolding shape if◌then◌else◌ row_rule kids_rule
+unfolding shape when◌then◌else◌ row_rule kids_rule
 under_other t is rs h r = go (eqb t 32) refl (eqb t 33) refl
   where
     nothing : eqb (length rs) 0 ≡ true → all_values rs ≡ true
@@ -53,11 +53,11 @@ under_other t is rs h r = go (eqb t 32) refl (eqb t 33) refl
         nothing (and_right _ _ (rw (p, q, e) at r))
 
 obeyed_ruled : (d : ℕ) (ts : Trees Part) → obey_rules d (forget_trees ts) ≡ true → ruled ts ≡ true
-unfolding obey_rules forget_trees ruled if◌then◌else◌
+unfolding obey_rules forget_trees ruled when◌then◌else◌
 obeyed_ruled d nil h = refl
 obeyed_ruled d (node t is ks ts) h = and_both (and_left _ _ h) (and_both (go (leb t 26) (and_left _ _ (and_right _ _ h)) (λ e. obeyed_ruled d ks e) (λ e. obeyed_ruled (pred d) ks e)) (obeyed_ruled d ts (and_right _ _ (and_right _ _ h))))
   where
-    go : (b : Bool) → if◌then◌else◌ b (ltb 0 d and obey_rules (pred d) (forget_trees ks)) (obey_rules d (forget_trees ks)) ≡ true
+    go : (b : Bool) → when◌then◌else◌ b (ltb 0 d and obey_rules (pred d) (forget_trees ks)) (obey_rules d (forget_trees ks)) ≡ true
         → (obey_rules d (forget_trees ks) ≡ true → ruled ks ≡ true) → (obey_rules (pred d) (forget_trees ks) ≡ true → ruled ks ≡ true) → ruled ks ≡ true
     go true p f g = g (and_right _ _ p)
     go false p f g = f p
@@ -75,19 +75,19 @@ obeyed_tall d (node t is ks ts) h =
         → (tall ts ≤ 2 * d + 1) × (all_values (roots (forget_trees ts)) ≡ true → tall ts ≤ 2 * d)
         → (max (suc (tall ks)) (tall ts) ≤ 2 * d + 1) × ((leb t 26 and all_values (roots (forget_trees ts))) ≡ true → max (suc (tall ks)) (tall ts) ≤ 2 * d)
     go true q f g rest =
-        let p : (ltb 0 d and obey_rules (pred d) (forget_trees ks)) ≡ true = unfold if◌then◌else◌ in (rw q at (and_left _ _ (and_right _ _ h))) in
+        let p : (ltb 0 d and obey_rules (pred d) (forget_trees ks)) ≡ true = unfold when◌then◌else◌ in (rw q at (and_left _ _ (and_right _ _ h))) in
         let z = ltb-true 0 d (and_left _ _ p) in
         let k = (f (and_right _ _ p)).0 in
         (omega (arith, rest.0), λ e. omega (arith, rest.1 (and_right _ _ e)))
     go false q f g rest =
-        let p : obey_rules d (forget_trees ks) ≡ true = unfold if◌then◌else◌ in (rw q at (and_left _ _ (and_right _ _ h))) in
+        let p : obey_rules d (forget_trees ks) ≡ true = unfold when◌then◌else◌ in (rw q at (and_left _ _ (and_right _ _ h))) in
         let k = (g p).1 (under_other t _ _ q (and_left _ _ h)) in
         (omega (arith, rest.0), λ e. false≢true (sym q ∙ and_left _ _ e))
 
 ---- the line index
 
 line_is : (l : List (List ℕ)) (x : Option (LineIndex Part)) (flag : ℕ) (name starts : List ℕ) → flag ≡ line_flag x → name ≡ (line_name x).bytes → starts ≡ line_starts x → line_bytes l flag name starts ≡ write_line_index l (forget_line x)
-unfolding line_bytes write_line_index if◌then◌else◌ line_flag line_name line_starts forget_line
+unfolding line_bytes write_line_index when◌then◌else◌ line_flag line_name line_starts forget_line
 line_is l none flag name starts e f g = rw e
 line_is l (some y) flag name starts e f g = rw (e, f, g)
 

@@ -3,7 +3,6 @@ use mathlib.Core.Path.{◌≡◌, sym, ap, ◌∙◌}
 use native.Mathlib.Omega.{arith}
 use lib.ListN.{length, take}
 use lib.Seq.{length-take-le}
-use borrow.Author.Rules.{rules}
 use Rattle.slices.specs.Laws.Zeros.{zero_from_pad_to}
 use Rattle.line_index.specs.LineIndex.{count_of}
 use Rattle.line_index.proofs.LineIndex.new.Goals as goal

@@ -1,5 +1,4 @@
 -- `Capacities::of` meets its contract: each capacity is the definition's.
-use borrow.Author.Rules.{rules}
 use Rattle.payload.specs.Tables.{capacities_of}
 use Rattle.payload.proofs.Capacities.of.Goals as goal
 

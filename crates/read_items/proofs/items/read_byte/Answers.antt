@@ -1,6 +1,5 @@
 -- `read_byte` meets its contract: a byte, or the end.
 use native.Mathlib.Omega.{arith}
-use borrow.Author.Rules.{rules}
 use Rattle.read_items.specs.Laws.Reads.{reads_byte, reads_byte_end}
 use Rattle.read_items.proofs.items.read_byte.Goals as goal
 

@@ -1,6 +1,5 @@
 -- `read_index` meets its contract: the cut index is below the count of strings, is not, or no varint is read.
 use native.Mathlib.Omega.{arith}
-use borrow.Author.Rules.{rules}
 use Rattle.read_items.specs.Laws.Context.{reads_index, reads_index_above, reads_index_stop}
 use Rattle.read_items.specs.Laws.Reads.{was_read, was_refused}
 use Rattle.read_items.proofs.items.read_index.Goals as goal

@@ -1,6 +1,5 @@
 -- `read_pool_index` meets its contract: the entry of the index that was read, without hints, or no index is read.
 use native.Mathlib.Omega.{arith}
-use borrow.Author.Rules.{rules}
 use Rattle.read_items.specs.Laws.Context.{was_index, index_inside, no_index, entry_fits}
 use Rattle.read_items.proofs.items.read_pool_index.Goals as goal
 

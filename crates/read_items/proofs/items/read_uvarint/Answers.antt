@@ -1,6 +1,5 @@
 -- `read_uvarint` meets its contract: a varint at a place of the payload is one at the front of what stands from there on.
 use mathlib.Core.Path.{sym, ◌∙◌}
-use borrow.Author.Rules.{rules}
 use Rattle.read_items.specs.Laws.Reads.{reads_varint}
 use Rattle.read_items.proofs.items.read_uvarint.Goals as goal
 

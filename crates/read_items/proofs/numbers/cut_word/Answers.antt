@@ -1,6 +1,5 @@
 -- `cut_word` meets its contract, kind by kind.
 use mathlib.Core.Path.{refl, ap, ◌∙◌}
-use borrow.Author.Rules.{rules}
 use Rattle.payload.specs.Numbers.{cut_signed}
 use Rattle.read_items.proofs.numbers.cut_word.Goals as goal
 

@@ -1,6 +1,5 @@
 -- `read_char` meets its contract: the cut number is a Unicode scalar, is none, or no varint is read.
 use mathlib.Core.Path.{sym, ◌∙◌}
-use borrow.Author.Rules.{rules}
 use Rattle.payload.specs.Numbers.{read_number}
 use Rattle.read_items.specs.Laws.Numbers.{reads_tested, reads_tested_not, reads_tested_stop}
 use Rattle.read_items.specs.Laws.Reads.{was_read, was_refused}

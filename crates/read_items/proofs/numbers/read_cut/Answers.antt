@@ -1,5 +1,4 @@
 -- `read_cut` meets its contract: a varint, cut, or none.
-use borrow.Author.Rules.{rules}
 use Rattle.read_items.specs.Laws.Numbers.{reads_cut, reads_cut_stop}
 use Rattle.read_items.specs.Laws.Reads.{was_read, was_refused}
 use Rattle.read_items.proofs.numbers.read_cut.Goals as goal

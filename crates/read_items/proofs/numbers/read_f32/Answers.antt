@@ -3,7 +3,6 @@ use Rattle.payload.specs.Numbers.{read_number}
 use Rattle.cursor.specs.Laws.Body.{was_body, was_short}
 use Rattle.read_items.specs.Laws.Numbers.{reads_float, reads_float_end}
 use native.Mathlib.Omega.{arith}
-use borrow.Author.Rules.{rules}
 use Rattle.read_items.proofs.numbers.read_f32.Goals as goal
 
 pub half-requires : goal.half-requires

@@ -1,5 +1,4 @@
 -- `read_handle_kind` meets its contract: the cut number is a kind, is none, or no varint is read.
-use borrow.Author.Rules.{rules}
 use borrow.Author.Tests.{le-leb, lt-leb}
 use Rattle.payload.specs.Numbers.{read_number}
 use Rattle.read_items.specs.Laws.Numbers.{reads_tested, reads_tested_not, reads_tested_stop}

@@ -4,7 +4,6 @@ use native.Mathlib.Omega.{arith}
 use mir.Facts.{to_z-of_z}
 use mir.Syntax.{w64}
 use mir.Val.{SFits}
-use borrow.Author.Rules.{rules}
 use Rattle.signed.specs.Laws.Signed.{unzigzag_range}
 use Rattle.signed.specs.Signed.{word_of, unzigzag_of}
 use Rattle.signed.specs.Signed.{word_of}

@@ -1,6 +1,5 @@
 use mathlib.Core.Path.{◌∙◌}
 use mir.Facts.{to_z-of_z}
-use borrow.Author.Rules.{rules}
 use Rattle.read_items.specs.Laws.Reads.{was_read, was_refused}
 use Rattle.read_items.specs.Laws.Positions.{signed, reads_position, reads_no_position, reads_position_stop}
 use Rattle.read_items.proofs.positions.read_position.Goals as goal

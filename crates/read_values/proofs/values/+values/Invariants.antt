@@ -1,0 +1,58 @@
+use Rattle.read_values.proofs.EntryLoop.{EntrySofar}
+use Prim.Native.Nat.{◌-◌}
+use Rattle.payload.specs.Reading.{read_value}
+use Rattle.read_values.specs.Did.{context}
+use Rattle.read_values.proofs.Loop.{Sofar}
+use Rattle.read_values.specs.Under.{field_row}
+use Prim.Native.Nat.{◌+◌}
+use Rattle.read_values.proofs.values.+values.Given as goal
+use Rattle.std.proofs.Common.{◌+◌, ◌*◌}
+
+abbrev pub decreases-read_chunk : goal.decreases-read_chunk
+decreases-read_chunk l = 8 * l.left + 2
+
+abbrev pub decreases-read_closure : goal.decreases-read_closure
+decreases-read_closure l = 8 * l.left + 2
+
+abbrev pub decreases-read_entries : goal.decreases-read_entries
+decreases-read_entries l = 8 * l.left + 2
+
+abbrev pub decreases-read_field : goal.decreases-read_field
+decreases-read_field l = 8 * l.left + 2
+
+abbrev pub decreases-read_fields : goal.decreases-read_fields
+decreases-read_fields l = 8 * l.left + 3
+
+abbrev pub decreases-read_gap : goal.decreases-read_gap
+decreases-read_gap l = 8 * l.left + 1
+
+abbrev pub decreases-read_under : goal.decreases-read_under
+decreases-read_under l = 8 * l.left + 4
+
+abbrev pub decreases-read_value : goal.decreases-read_value
+decreases-read_value l = 8 * l.left
+
+abbrev pub decreases-read_values : goal.decreases-read_values
+decreases-read_values l = 8 * l.left + 1
+
+abbrev pub invariant-read_entries-loop-k : goal.invariant-read_entries-loop-k
+invariant-read_entries-loop-k l =
+    EntrySofar l.capacities l.bytes l.initial.rows l.rows l.initial.spans l.spans l.gap (read_value (context l.capacities l.bytes l.names l.pool) l.left) l.initial.now l.now l.count l.k
+
+abbrev pub decreases-read_entries-loop-k : goal.decreases-read_entries-loop-k
+decreases-read_entries-loop-k l = l.count - l.k
+
+abbrev pub invariant-read_fields-loop-k : goal.invariant-read_fields-loop-k
+invariant-read_fields-loop-k l =
+    Sofar l.capacities l.bytes l.initial.rows l.rows l.initial.spans l.spans (field_row (context l.capacities l.bytes l.names l.pool) (read_value (context l.capacities l.bytes l.names l.pool) l.left)) l.initial.now
+    l.now l.count l.k
+
+abbrev pub decreases-read_fields-loop-k : goal.decreases-read_fields-loop-k
+decreases-read_fields-loop-k l = l.count - l.k
+
+abbrev pub invariant-read_values-loop-k : goal.invariant-read_values-loop-k
+invariant-read_values-loop-k l =
+    Sofar l.capacities l.bytes l.initial.rows l.rows l.initial.spans l.spans (read_value (context l.capacities l.bytes l.names l.pool) l.left) l.initial.now l.now l.count l.k
+
+abbrev pub decreases-read_values-loop-k : goal.decreases-read_values-loop-k
+decreases-read_values-loop-k l = l.count - l.k
