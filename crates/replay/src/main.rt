@@ -1,13 +1,17 @@
 // Replays the answers that are recorded in the files that its arguments name: varints, UTF-8 and lines by the Rust, payloads and programs by document
 // 01 and the Rust. What the replayed calls promise, and what a field or a table of a record says, is in the contracts of their own crates.
+#![tactic(auto)]
+
 ghost use Rattle.std.specs.Prelude.{◌+◌, ◌≤◌, ◌<◌};
 
 mod leaves;
 mod payloads;
 mod programs;
 
-use libc::STDOUT_FILENO;
 use payload::Program;
+use std::env::FillError;
+use std::rt::{Env, Files};
+use std::{fs, io, str};
 
 // A record lends at most so many words of each table, and so many bytes for an output.
 const ROWS: usize = 512 * Program::ROW_WIDTH;
@@ -149,44 +153,37 @@ fn agreed_records(name: &[u8], records: &[u8]) -> Agreed {
 }
 
 // Writes how many records of a file agree. Where one does not, what is written is not what the file `stdout` has, and so the run is refused.
-fn report(name: &[u8], all: bool, count: u64) {
-    io::write_all(STDOUT_FILENO, name);
-    if !all {
-        io::write_all(STDOUT_FILENO, b" differs after");
+fn report(rt: &impl Print, name: &str, all: bool, count: u64) -> io::Result<()> {
+    if all {
+        return println!(rt; "{name} {count}");
     }
-    io::write_all(STDOUT_FILENO, b" ");
-    io::print_decimal(STDOUT_FILENO, count);
-    io::write_all(STDOUT_FILENO, b"\n");
+    println!(rt; "{name} differs after {count}")
 }
 
 // A file that fills the buffer may be longer, so it counts as one that cannot be read.
-fn replay(name: &[u8]) {
-    let fd = os::open_read(name);
-    if fd < 0 {
-        os::fail(name);
-        return;
-    }
-    let mut buffer = io::large_buffer();
-    let n = io::read_full(fd, &mut buffer);
-    libc::close(fd);
+fn replay<R: Files + Print + Eprint>(rt: &R, name: &str) -> io::Result<()> {
+    let mut file = match fs::open(rt, name) {
+        Ok(file) => file,
+        Err(error) => return eprintln!(rt; "{name}: {error}"),
+    };
+    let mut buffer = [0u8; 65536];
+    let n = input::read_full(&mut file, &mut buffer)?;
     if 65535 < n {
-        return;
+        return Ok(());
     }
-    let found = agreed_records(name, &buffer[..n]);
-    report(name, found.end == n, found.count);
+    let found = agreed_records(name.as_bytes(), &buffer[..n]);
+    report(rt, name, found.end == n, found.count)
 }
 
-fn replay_arg(i: usize) {
+// An argument that is no text, or longer than the buffer, names no file.
+fn main(rt: HostRuntime) -> io::Result<()> {
     let mut name = [0u8; 16];
-    let n = os::arg(i, &mut name);
-    replay(&name[..n]);
-}
-
-fn main() {
-    let count = os::arg_count();
-    let mut i = 1;
-    while i < count {
-        replay_arg(i);
-        i += 1;
+    for i in 1..usize::MAX {
+        match rt.arg(i, &mut name) {
+            Ok(n) => replay(&rt, str::from_utf8(&name[..n]).unwrap_or(""))?,
+            Err(FillError::TooLong) => replay(&rt, "")?,
+            Err(FillError::NotPresent) => return Ok(()),
+        }
     }
+    Ok(())
 }

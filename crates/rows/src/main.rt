@@ -3,7 +3,6 @@
 
 ghost use Rattle.std.specs.Prelude.{◌≡◌, length};
 ghost use Rattle.std.specs.Counts.{IsPrefixLen};
-ghost use Rattle.std.specs.Io.{ReadsAtMost};
 ghost use Rattle.slices.specs.Put.{put};
 ghost use Rattle.rows.specs.Listed.{listed};
 
@@ -46,26 +45,11 @@ fn list_payload(bytes: &[u8], out: &mut [u8; 65536]) -> usize
     listing::put_listing(answer, &rows, out)
 }
 
-// Reads until the buffer is full or the input ends, and gives how many bytes it put to the front.
-fn read_full<R: io::Read>(input: &mut R, buf: &mut [u8]) -> io::Result<usize>
-    ensures { ReadsAtMost result buf.new }
-{
-    let mut done = 0;
-    while done < buf.len() {
-        let n = input.read(&mut buf[done..])?;
-        if n == 0 {
-            return Ok(done);
-        }
-        done += n;
-    }
-    Ok(done)
-}
-
 // One byte more than a payload may have is read, so that a longer one is seen.
 fn main(rt: HostRuntime) -> io::Result<()> {
-    let mut input = [0u8; PAYLOAD + 1];
-    let n = read_full(&mut rt.stdin(), &mut input)?;
+    let mut bytes = [0u8; PAYLOAD + 1];
+    let n = input::read_full(&mut rt.stdin(), &mut bytes)?;
     let mut text = [0u8; 65536];
-    let size = list_payload(&input[..n], &mut text);
+    let size = list_payload(&bytes[..n], &mut text);
     rt.write_all(&text[..size])
 }

@@ -1,9 +1,5 @@
--- `put_word` meets its contract: what is left of the eight bytes, put where the next goes, makes the whole.
-use mathlib.Core.Path.{◌≡◌, refl, sym, ap, ◌∙◌}
-use mathlib.Core.List.{List}
-use Prim.Native.Nat.{ℕ, suc, ◌+◌, ◌-◌, ◌/◌, ◌%◌, ◌≤◌, ◌<◌}
-use native.Mathlib.Omega.{arith}
-use borrow.Author.Rules.{rules}
+-- `put_word` meets its contract: each turn stores the lowest byte of what is left.
+use Rattle.std.proofs.Common.{◌≡◌, ℕ, suc, ◌+◌, ◌-◌, ◌/◌, ◌%◌, ◌<◌, ◌≤◌, List, refl, sym, ap, ◌∙◌, arith, rules}
 use lib.ListN.{set, length-set}
 use Rattle.slices.specs.Put.{put}
 use Rattle.slices.specs.Laws.Put.{put_cons, put_none}

@@ -1,7 +1,5 @@
-use mathlib.Core.Path.{◌≡◌}
-use mathlib.Core.List.{List}
-use Prim.Native.Nat.{ℕ, ◌-◌, ◌≤◌}
-use lib.ListN.{length}
+-- The loop's invariant: what is left of the eight bytes, put where the next goes, makes the whole.
+use Rattle.std.proofs.Common.{◌≡◌, ℕ, ◌-◌, ◌≤◌, List, length}
 use Rattle.slices.specs.Put.{put}
 use Rattle.slices.specs.LittleEndian.{to_le_bytes}
 use Rattle.host.proofs.put_word.Given as goal

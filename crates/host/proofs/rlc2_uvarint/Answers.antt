@@ -1,10 +1,5 @@
 -- `rlc2_uvarint` meets its contract: no room for the number, a number, a refusal.
-use mathlib.Core.Path.{◌≡◌, refl, sym, ◌∙◌}
-use mathlib.Core.List.{List}
-use Prim.Native.Nat.{ℕ, ◌≤◌, ◌<◌}
-use native.Mathlib.Omega.{arith}
-use lib.ListN.{length}
-use borrow.Author.Tests.{lt-ltb, le-ltb}
+use Rattle.std.proofs.Common.{◌≡◌, ℕ, ◌<◌, ◌≤◌, List, length, refl, sym, ◌∙◌, arith, lt-ltb, le-ltb}
 use Rattle.slices.specs.Put.{put}
 use Rattle.slices.specs.LittleEndian.{to_le_bytes}
 use Rattle.slices.specs.Laws.LittleEndian.{length_to_le_bytes}
@@ -31,24 +26,17 @@ module _ (number : List ℕ) (h : 8 ≤ length number) where
   refused : (refusal place : ℕ) → Said (Refused refusal place) number 0 number
   refused refusal place = (simp (le-ltb (length number) 8 h), refl)
 
-pub returns-then-number-lt8-clause-value : goal.returns-then-number-lt8-clause-value
-returns-then-number-lt8-clause-value c = (no_room (varint_of c.args.bytes.now 0) c.args.number.now c.if-number-lt8.true).0
+pub returns-then-number-lt8 : goal.returns-then-number-lt8
+returns-then-number-lt8 c =
+    let said = no_room (varint_of c.args.bytes.now 0) c.args.number.now c.if-number-lt8.true in
+    record { value = said.0; number_after = said.1 }
 
-pub returns-then-number-lt8-clause-number_after : goal.returns-then-number-lt8-clause-number_after
-returns-then-number-lt8-clause-number_after c = (no_room (varint_of c.args.bytes.now 0) c.args.number.now c.if-number-lt8.true).1
+pub returns-in-Number : goal.returns-in-Number
+returns-in-Number c =
+    let said = read c.args.number.now c.if-number-lt8.false _ _ in
+    rw (sym c.uvarint.ensures ∙ c.in-Number.is) (record { value = said.0; number_after = c.put_word.ensures ∙ said.1 })
 
-pub returns-in-Number-clause-value : goal.returns-in-Number-clause-value
-returns-in-Number-clause-value c =
-    rw (sym c.uvarint.ensures ∙ c.in-Number.is) (read c.args.number.now c.if-number-lt8.false c.in-Number.n c.in-Number.next).0
-
-pub returns-in-Number-clause-number_after : goal.returns-in-Number-clause-number_after
-returns-in-Number-clause-number_after c =
-    rw (sym c.uvarint.ensures ∙ c.in-Number.is) (c.put_word.ensures ∙ (read c.args.number.now c.if-number-lt8.false c.in-Number.n c.in-Number.next).1)
-
-pub returns-in-Refused-clause-value : goal.returns-in-Refused-clause-value
-returns-in-Refused-clause-value c =
-    rw (sym c.uvarint.ensures ∙ c.in-Refused.is) (refused c.args.number.now c.if-number-lt8.false c.in-Refused.field-0 c.in-Refused.field-1).0
-
-pub returns-in-Refused-clause-number_after : goal.returns-in-Refused-clause-number_after
-returns-in-Refused-clause-number_after c =
-    rw (sym c.uvarint.ensures ∙ c.in-Refused.is) (refused c.args.number.now c.if-number-lt8.false c.in-Refused.field-0 c.in-Refused.field-1).1
+pub returns-in-Refused : goal.returns-in-Refused
+returns-in-Refused c =
+    let said = refused c.args.number.now c.if-number-lt8.false c.in-Refused.field-0 c.in-Refused.field-1 in
+    rw (sym c.uvarint.ensures ∙ c.in-Refused.is) (record { value = said.0; number_after = said.1 })

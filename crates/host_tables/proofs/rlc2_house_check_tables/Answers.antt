@@ -1,7 +1,0 @@
--- `rlc2_house_check_tables` meets its contract: tables and answer are those of `house_check`.
-use Rattle.host_tables.proofs.HostRead.{host_read}
-use borrow.Author.Rules.{rules}
-use Rattle.host_tables.proofs.rlc2_house_check_tables.Goals as goal
-
-pub returns : goal.returns
-returns c = host_read c.put_read.ensures (search rules)
