@@ -1,4 +1,3 @@
-pub mod Digits
 pub mod Listing
 pub mod Puts
 pub mod Laws

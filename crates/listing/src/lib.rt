@@ -7,7 +7,6 @@ ghost use Rattle.payload.specs.Rows.{row_width};
 ghost use Rattle.listing.specs.Listing.{column, row_line, row_lines, answer_line, listed_rows, listing};
 ghost use Rattle.listing.specs.Puts.{Puts};
 
-use itoa::Buffer;
 use payload::{Program, Read};
 
 fn put_spaces(out: &mut [u8], at: usize, count: usize)
@@ -34,13 +33,13 @@ fn put_column(out: &mut [u8], at: usize, width: usize, n: u64) -> usize
     ensures puts { Puts out.old at (column width n) result out.new }
     ensures upper_bound { result ≤ at + 21 }
 {
-    let mut buffer = Buffer::new();
-    let digits = buffer.format(n).as_bytes();
-    let spaces = spaces_before(digits.len(), width);
+    let mut digits = [0u8; 20];
+    let k = io::decimal(n, &mut digits);
+    let spaces = spaces_before(k, width);
     let from = at + spaces;
     put_spaces(out, at, spaces);
-    slices::copy_part(out, from, digits);
-    from + digits.len()
+    slices::copy_part(out, from, &digits[..k]);
+    from + k
 }
 
 fn put_line_end(out: &mut [u8], at: usize) -> usize

@@ -9,4 +9,5 @@ unfolding answer_line
 returns-clause-puts c = puts_then c.put_column-middle.ensures.puts (puts_then c.put_column-end.ensures.puts c.put_line_end.ensures)
 
 pub returns-clause-upper_bound : goal.returns-clause-upper_bound
+unfolding answer_line
 returns-clause-upper_bound c = omega (arith, c.put_line_end.ensures.end_is)

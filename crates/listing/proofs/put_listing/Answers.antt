@@ -31,15 +31,20 @@ put_answer-requires c =
 pub returns-in-Accepted : goal.returns-in-Accepted
 unfolding listing listed_rows last_line
 returns-in-Accepted c =
+    let pre = c.requires in
     let e = c.in-Accepted.is in
-    let h = rw e at c.requires in
-    let all = whole (rw e (puts_then c.put_rows-at.ensures.puts c.put_answer.ensures.puts))
+    let h = rw e at pre in
+    let all =
+    whole (rw e (puts_then c.put_rows-at.ensures.puts c.put_answer.ensures.puts))
     (omega (arith, h.1, c.put_rows-at.ensures.upper_bound, c.put_rows-at.auto.out, c.put_answer.ensures.upper_bound, c.put_answer.auto.out)) in
     record { value = all.0; out_after = all.1.0; upper_bound = all.1.1 }
 
 pub returns-in-Refused : goal.returns-in-Refused
 unfolding listing listed_rows last_line row_lines
 returns-in-Refused c =
-    let all = whole (rw c.in-Refused.is c.put_answer-in-Refused.ensures.puts)
-    (omega (arith, c.requires.1, c.put_answer-in-Refused.ensures.upper_bound, c.put_answer-in-Refused.auto.out)) in
+    let pre = c.requires in
+    let e = c.in-Refused.is in
+    let all =
+    whole (rw e c.put_answer-in-Refused.ensures.puts)
+    (omega (arith, pre.1, c.put_answer-in-Refused.ensures.upper_bound, c.put_answer-in-Refused.auto.out)) in
     record { value = all.0; out_after = all.1.0; upper_bound = all.1.1 }

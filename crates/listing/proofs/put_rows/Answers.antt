@@ -19,5 +19,14 @@ loop-i-preserved c =
 
 pub returns-clause-puts : goal.returns-clause-puts
 returns-clause-puts c =
-    let e : c.loop-i.i ≡ c.args.used = omega arith in
-    rw (← e) c.loop-i.invariant.3
+    let args = c.args in
+    let inv = c.loop-i.invariant in
+    let e : c.loop-i.i ≡ args.used = omega arith in
+    rw (← e) inv.3
+
+pub returns-clause-upper_bound : goal.returns-clause-upper_bound
+returns-clause-upper_bound c =
+    let args = c.args in
+    let inv = c.loop-i.invariant in
+    let e : c.loop-i.i ≡ args.used = omega arith in
+    omega arith

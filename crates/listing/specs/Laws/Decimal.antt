@@ -1,11 +1,9 @@
--- Laws of `decimal`: it is the fewest decimal digits that hold a number, and what std prints.
+-- Laws of `decimal`, and that the fewest decimal digits that hold a number are it.
 use Rattle.std.specs.Prelude.{◌≡◌, refl, List, [], ◌∷◌, ◌++◌, ◌⊎◌, ℕ, zero, suc, ◌+◌, ◌-◌, ◌/◌, ◌%◌, ◌^◌, ◌≤◌, ◌<◌}
 use Rattle.std.proofs.Common.{sym, ap, ◌∙◌, inl, inr, ⊎_elim, arith, pow-suc, lt-ltb, le-ltb}
 use Rattle.std.proofs.Math.Nat.{one-le-pow, pow-le-pow_right}
-use Rattle.std.proofs.lemmas.Fmt.{decimal_digit, decimal_step}
-use Rattle.std.specs.Fmt.{decimal as printed}
+use Rattle.io.specs.Digits.{last_digits, IsDigitCount}
 use Rattle.varint.specs.Laws.Uleb128.{below_or}
-use Rattle.listing.specs.Digits.{last_digits, IsDigitCount}
 use Rattle.listing.specs.Listing.{decimal, decimal_digits}
 
 digits_small : (k n : ℕ) → n < 10 → decimal_digits k n ≡ (48 + n) ∷ []
@@ -41,13 +39,16 @@ decimal_large (suc n) h =
     digits_large n (suc n) h
     ∙ ap (λ (r : List ℕ). r ++ ((48 + suc n % 10) ∷ [])) (digits_enough n (suc n / 10) (suc n / 10) (omega arith) (omega arith))
 
--- the fewest decimal digits that hold a number are those of the definition
-pub fewest_decimal : (k n : ℕ) → IsDigitCount n k → last_digits k n ≡ decimal n
+-- the fewest digits of the kit's `decimal` are those of the definition
+last_digit : (k n : ℕ) → last_digits 10 (suc k) n ≡ last_digits 10 k (n / 10) ++ ((48 + n % 10) ∷ [])
+last_digit k n = simp (lt-ltb (n % 10) 10 (omega arith))
+
+pub fewest_decimal : (k n : ℕ) → IsDigitCount 10 1 n k → last_digits 10 k n ≡ decimal n
 fewest_decimal zero n f = absurd (omega (arith, f.0))
 fewest_decimal (suc zero) n f =
     let h : n < 10 = f.1 in
     let e : n % 10 ≡ n = omega arith in
-    rw e (sym (decimal_small n h))
+    last_digit 0 n ∙ rw e (sym (decimal_small n h))
 fewest_decimal (suc (suc k)) n f =
     let some = one-le-pow k 10 (omega arith) in
     let e : suc (suc k) - 1 ≡ suc k = omega arith in
@@ -56,10 +57,10 @@ fewest_decimal (suc (suc k)) n f =
     let low = pow-suc 10 k in
     let high = pow-suc 10 (suc k) in
     let rest = fewest_decimal (suc k) (n / 10) (omega arith, omega (arith, f.1), λ h. rw e' (omega arith)) in
-    ap (λ (l : List ℕ). l ++ ((48 + n % 10) ∷ [])) rest ∙ sym (decimal_large n (omega arith))
+    last_digit (suc k) n ∙ ap (λ (l : List ℕ). l ++ ((48 + n % 10) ∷ [])) rest ∙ sym (decimal_large n (omega arith))
 
 -- as many digits as hold a number are no fewer than its fewest
-pub fewest_at_most : (most n k : ℕ) → 1 ≤ most → n < 10 ^ most → IsDigitCount n k → k ≤ most
+pub fewest_at_most : (most n k : ℕ) → 1 ≤ most → n < 10 ^ most → IsDigitCount 10 1 n k → k ≤ most
 fewest_at_most most n k some h f = ⊎_elim over (λ l. l) (below_or most k)
   where
     over : most < k → k ≤ most
@@ -67,15 +68,3 @@ fewest_at_most most n k some h f = ⊎_elim over (λ l. l) (below_or most k)
         let least : 10 ^ (k - 1) ≤ n = f.2 (omega arith) in
         let more : 10 ^ most ≤ 10 ^ (k - 1) = pow-le-pow_right (omega arith) (omega arith) in
         absurd (omega arith)
-
--- std's text of a number of 64 bits is the definition's
-printed_below : (k n : ℕ) → n ≤ k → n < 2 ^ 64 → printed n ≡ decimal n
-printed_below zero n l h = decimal_digit n (omega arith) ∙ sym (decimal_small n (omega arith))
-printed_below (suc k) n l h = go (λ (p : 10 ≤ n). printed_below k (n / 10) (omega arith) (omega arith)) (below_or n 10)
-  where
-    go : (10 ≤ n → printed (n / 10) ≡ decimal (n / 10)) → (n < 10) ⊎ (10 ≤ n) → printed n ≡ decimal n
-    go rest (inl p) = decimal_digit n p ∙ sym (decimal_small n p)
-    go rest (inr p) = decimal_step n p h ∙ ap (λ (r : List ℕ). r ++ ((48 + n % 10) ∷ [])) (rest p) ∙ sym (decimal_large n p)
-
-pub printed_decimal : (n : ℕ) → n < 2 ^ 64 → printed n ≡ decimal n
-printed_decimal n h = printed_below n n (omega arith) h
