@@ -1,4 +1,4 @@
-//! Gathers the project's figures into docs/FIGURES.md, with docs/growth.svg: check times, lines, comparison counts,
+//! Gathers the project's figures into docs/FIGURES.md, with docs/growth.svg: the gate's verdict, lines, comparison counts,
 //! speed, growth.
 
 mod gate;
@@ -56,7 +56,7 @@ fn gather(log: Option<&Path>) -> io::Result<()> {
     let measured = runs::printed("measure", &LAYERS)?;
     let mut page = heading(&project);
     page += &gate.summary();
-    page += &table(&crates, &gate);
+    page += &table(&crates);
     page += &section("Compared with the Rust", "compare", &compared);
     page += &section("Measured beside the Rust", "measure", &measured);
     let docs = project.join("docs");
@@ -85,19 +85,14 @@ fn heading(project: &Path) -> String {
     )
 }
 
-/// A line for each crate: its check time, the lines of each kind that it has, and its must-fail edits.
-fn table(crates: &[lines::Lines], gate: &gate::Gate) -> String {
+/// A line for each crate: the lines of each kind that it has, and its must-fail edits.
+fn table(crates: &[lines::Lines]) -> String {
     let mut page = "\n## Crates\n\nLines that are neither empty nor comment.\n\n".to_string();
-    page += "| crate | check, s | code | definitions | laws | proofs | must-fail edits |\n|---|---|---|---|---|---|---|\n";
+    page += "| crate | code | definitions | laws | proofs | must-fail edits |\n|---|---|---|---|---|---|\n";
     for lines in crates.iter().chain([&lines::total(crates)]) {
-        let seconds = match lines.name.as_str() {
-            "all" => Some(gate.sum()),
-            name => gate.seconds(name),
-        };
-        let seconds = seconds.map_or(String::new(), |s| s.to_string());
         let counts = lines.counts.map(|count| count.to_string()).join(" | ");
         // Writing into a string does not fail.
-        let _ = writeln!(page, "| {} | {seconds} | {counts} |", lines.name);
+        let _ = writeln!(page, "| {} | {counts} |", lines.name);
     }
     page
 }
