@@ -86,7 +86,7 @@ pub record GivesBack (T : Tables) (p rows spans starts pool rows' spans' starts'
   pub strings_used : counts.strings ≡ length strings
   pub pool_is : pool' ≡ pad_to (length pool) (parts_words strings)
 
--- T is a sound program within the limits, and p is its writing. Its store may be of any size, which only makes `demand-3-one` say more: a writing within the
+-- T is a sound program within the limits, and p is its writing. Its store may be of any size, which only makes `demand_3_one` say more: a writing within the
 -- size limit has one program, wherever its bytes stand.
 pub record Writes (T : Tables) (p : List ℕ) : Type 0 where
   pub script : Script Part

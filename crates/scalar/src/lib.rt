@@ -142,7 +142,7 @@ fn bits_of_f32(x: f32) -> u32
     f32::to_bits(x)
 }
 
-// A row's words to the constant and back: the same words, where they fit a scalar's row (`scalar-row` in specs/Laws).
+// A row's words to the constant and back: the same words, where they fit a scalar's row (`scalar_row` in specs/Laws).
 // Where the caller's tag is a constant, a few instructions are left.
 pub fn through_row(t: u64, a: u64, b: u64) -> Words
     ensures { result ≡ row_of (const_of t a b) }

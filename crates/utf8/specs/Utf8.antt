@@ -1,4 +1,4 @@
--- UTF-8 twice: `Utf8` is the grammar of RFC 3629, section 4, rule by rule, and `isUtf8` a test that computes in one pass; `Laws/Grammar.antt` has that they agree.
+-- UTF-8 twice: `Utf8` is the grammar of RFC 3629, section 4, rule by rule, and `is_utf8` a test that computes in one pass; `Laws/Grammar.antt` has that they agree.
 use Rattle.std.specs.Prelude.{Bool, true, false, cond, ◌&&◌, ◌||◌, List, [], ◌∷◌, ◌++◌, ℕ, zero, suc, ◌+◌, ◌≤◌, leb, eqb, length, get_or, take, drop}
 
 -- b is one of lo to hi, as %xLO-HI of the grammar

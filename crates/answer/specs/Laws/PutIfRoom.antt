@@ -1,4 +1,4 @@
--- The two cases of `putIfRoom`.
+-- The two cases of `put_if_room`.
 use Rattle.std.specs.Prelude.{◌≡◌, List, ℕ, ◌+◌, ◌≤◌, ◌<◌, length}
 use Rattle.std.proofs.Common.{le-leb}
 use Rattle.std.proofs.lemmas.Bool.{lt-leb}

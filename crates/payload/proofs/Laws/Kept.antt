@@ -33,7 +33,7 @@ unfolding expand total
 length_expand [] = refl
 length_expand (r ∷ rs) = length-append (replicate r.count r.span) (expand rs) ∙ rw (length-replicate r.count r.span, length_expand rs)
 
--- `itemSound` but for the positions of spans
+-- `item_sound` but for the positions of spans
 unfoldable pub item_read : Item (List ℕ) → Bool
 item_read (number k w) = fits_kind k w
 item_read (string b) = is_utf8 b

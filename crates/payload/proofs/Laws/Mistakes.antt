@@ -1,5 +1,5 @@
 -- Document 01's mistakes to rule out, each excluded by an example that is computed from the definitions. (A pool index cut after its test is excluded by the
--- proof table's `index-cut`.)
+-- proof table's `index_cut`.)
 use Rattle.std.specs.Prelude.{true, List, [], ◌∷◌, ◌≡◌, refl, ◌^◌, ℕ}
 use Rattle.slices.specs.LittleEndian.{from_le_bytes, to_le_bytes}
 use Rattle.slices.specs.Same.{same}

@@ -188,7 +188,7 @@ readable_of listed l (record_name b) h g = and_left (is_in b l) true g
 readable_of listed l (code b ss) h g = h
 
 -- the reading of what was written
-module _ (c : Capacities) (small : Small c) (listed : List ℕ → Bool) (s : Script (List ℕ)) (sound : SoundScript s) (named : Named s) (in_List : Listed listed s) (fits : Fits c s)
+module _ (c : Capacities) (small : Small c) (listed : List ℕ → Bool) (s : Script (List ℕ)) (sound : SoundScript s) (named : Named s) (in_list : Listed listed s) (fits : Fits c s)
     (short-writing : length (writing s) < 2 ^ 64) where
   pool_short : length (write_strings (pool_of s)) < 2 ^ 64
   unfolding writing
@@ -208,7 +208,7 @@ module _ (c : Capacities) (small : Small c) (listed : List ℕ → Bool) (s : Sc
   unfolding Named Listed gathered
   tree_readable = all_items_lem (item_sound) (λ i. item_named (pool_of s) i and item_listed listed i and item_gathered (pool_of s) i) (item_readable listed (pool_of s)) (readable_of listed (pool_of s)) (single s.outer) sound.items_sound
       (all_items_lem (item_named (pool_of s)) (λ i. item_listed listed i and item_gathered (pool_of s) i) (λ i. item_named (pool_of s) i and item_listed listed i and item_gathered (pool_of s) i) (λ i p q. and_both p q) (single s.outer) named
-      (all_items_lem (item_listed listed) (item_gathered (pool_of s)) (λ i. item_listed listed i and item_gathered (pool_of s) i) (λ i p q. and_both p q) (single s.outer) in_List
+      (all_items_lem (item_listed listed) (item_gathered (pool_of s)) (λ i. item_listed listed i and item_gathered (pool_of s) i) (λ i p q. and_both p q) (single s.outer) in_list
       (in_trees (pool_of s) (single s.outer) (in_left (pool_of s) (trees_strings (single s.outer)) (line_strings s.line) in_pool))))
 
   -- what the pool reader gives

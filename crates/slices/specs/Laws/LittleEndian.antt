@@ -1,4 +1,4 @@
--- Laws of `fromLeBytes` and `toLeBytes`.
+-- Laws of `from_le_bytes` and `to_le_bytes`.
 use Rattle.std.specs.Prelude.{◌≡◌, refl, List, [], ◌∷◌, ◌++◌, ℕ, zero, suc, ◌+◌, ◌*◌, ◌/◌, ◌%◌, ◌^◌, ◌≤◌, ◌<◌, length, get_or, take, drop}
 use Rattle.std.proofs.Common.{ap, ◌∙◌, pow-suc, mul_comm, mul_assoc, mod-eq_of_lt, add-one, arith, length-drop, drop-cons, get_or-drop, take-add, drop-drop, length-take-le}
 use Rattle.std.proofs.Math.Arith.{mod-mul}

@@ -1,4 +1,4 @@
--- Laws of `zeros`, `zeroFrom` and `padTo`.
+-- Laws of `zeros`, `zero_from` and `pad_to`.
 use Rattle.std.specs.Prelude.{◌≡◌, refl, List, [], ℕ, ◌+◌, ◌-◌, ◌≤◌, ◌<◌, length, set, take}
 use Rattle.std.proofs.Common.{sym, ap, ◌∙◌, append-nil, ⊎_elim, eq-zero-or-pos, arith, length-append, length-take, drop_of_length-le, take_all}
 use Rattle.std.proofs.lemmas.List.{length-replicate}

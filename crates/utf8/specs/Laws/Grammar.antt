@@ -1,4 +1,4 @@
--- The test `isUtf8` passes exactly the bytes that the grammar `Utf8` makes: `complete` and `sound`.
+-- The test `is_utf8` passes exactly the bytes that the grammar `Utf8` makes: `complete` and `sound`.
 use Rattle.std.specs.Prelude.{◌≡◌, refl, Bool, true, false, cond, ◌&&◌, List, [], ◌∷◌, ◌++◌, ℕ, zero, suc, ◌≤◌, ◌<◌, leb, length, get_or, take, drop}
 use Rattle.std.proofs.Common.{sym, ◌∙◌, subst, ⊎_elim, true≢false, arith, take-append-drop, length-drop, le-leb, leb-true}
 use Rattle.std.proofs.Math.Bool.{and-eq-true_iff}

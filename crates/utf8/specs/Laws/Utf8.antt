@@ -1,4 +1,4 @@
--- Laws of the test: how wide a character is by its first byte, and how `isUtf8` goes on at an index of a list.
+-- Laws of the test: how wide a character is by its first byte, and how `is_utf8` goes on at an index of a list.
 use Rattle.std.specs.Prelude.{◌≡◌, refl, Bool, false, cond, not, ◌&&◌, ◌⊎◌, List, [], ◌∷◌, ℕ, zero, suc, ◌+◌, ◌-◌, ◌≤◌, ◌<◌, length, get_or, take, drop, leb, eqb}
 use Rattle.std.proofs.Common.{sym, ap, ◌∙◌, true≢false, inl, inr, add-zero, not-suc-le-zero, eq-zero-or-pos, arith, length-drop, drop_of_length-le, get_or-drop, drop-drop}
 use Rattle.std.proofs.Math.Bool.{true, or-false, and-false, and-eq-true_iff}

@@ -1,4 +1,4 @@
--- Laws of `scan` and `varintOf`: what a proof cites in the place of the definitions' text. Assumes nothing.
+-- Laws of `scan` and `varint_of`: what a proof cites in the place of the definitions' text. Assumes nothing.
 use Rattle.std.specs.Prelude.{◌≡◌, List, [], ◌∷◌, ℕ, zero, suc, ◌+◌, ◌*◌, ◌%◌, ◌≤◌, ◌<◌, length, drop, get_or}
 use Rattle.std.proofs.Math.Path.{refl}
 use Rattle.std.proofs.Common.{sym, ap, ◌∙◌, mod-eq_of_lt, arith, add-one, lt-ltb, le-ltb, drop_of_length-le, drop-cons}
