@@ -13,7 +13,10 @@ loop-i-preserved c =
     let a = c.args in
     let i = c.loop-i.i in
     let go = c.loop-i-test.true in
-    elim c.if-starts-i.branch [ then-starts-i w ↦ (omega arith, omega arith, omega (arith, above_no a.starts.now i go a.o w.if-starts-i.true)) | else-starts-i w ↦ (omega arith, omega arith, omega (arith, above_yes a.starts.now i go a.o w.if-starts-i.false)) ]
+    elim c.if-starts-i.branch [
+      | then-starts-i w ↦ (omega arith, omega arith, omega (arith, above_no a.starts.now i go a.o w.if-starts-i.true))
+      | else-starts-i w ↦ (omega arith, omega arith, omega (arith, above_yes a.starts.now i go a.o w.if-starts-i.false))
+    ]
 
 pub returns : goal.returns
 returns c =

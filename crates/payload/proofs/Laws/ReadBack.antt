@@ -207,7 +207,8 @@ module _ (c : Capacities) (small : Small c) (listed : List ℕ → Bool) (s : Sc
   tree_readable : all_items (item_readable listed (pool_of s)) (single s.outer) ≡ true
   unfolding Named Listed gathered
   tree_readable = all_items_lem (item_sound) (λ i. item_named (pool_of s) i and item_listed listed i and item_gathered (pool_of s) i) (item_readable listed (pool_of s)) (readable_of listed (pool_of s)) (single s.outer) sound.items_sound
-      (all_items_lem (item_named (pool_of s)) (λ i. item_listed listed i and item_gathered (pool_of s) i) (λ i. item_named (pool_of s) i and item_listed listed i and item_gathered (pool_of s) i) (λ i p q. and_both p q) (single s.outer) named
+      (all_items_lem (item_named (pool_of s)) (λ i. item_listed listed i and item_gathered (pool_of s) i) (λ i. item_named (pool_of s) i and item_listed listed i and item_gathered (pool_of s) i)
+      (λ i p q. and_both p q) (single s.outer) named
       (all_items_lem (item_listed listed) (item_gathered (pool_of s)) (λ i. item_listed listed i and item_gathered (pool_of s) i) (λ i p q. and_both p q) (single s.outer) in_list
       (in_trees (pool_of s) (single s.outer) (in_left (pool_of s) (trees_strings (single s.outer)) (line_strings s.line) in_pool))))
 

@@ -14,7 +14,8 @@ use Rattle.payload.specs.Demand3.{all_items, all_of}
 use Rattle.payload.specs.Laws.Gives.{Gives, after_bytes, after_none, after_row_lem, gives_as, gives_bind, gives_is, gives_pure, gives_then}
 use Rattle.payload.specs.Laws.Pool.{and_both, and_left, and_right, false≢true}
 use Rattle.payload.proofs.Laws.RoundTrip.{same_kind_eq}
-use Rattle.payload.specs.Laws.Rules.{all_tags, all_values, distinct_keys, distinct_pairs, is_tag, is_value_tag, item_sound, kids_rule, obey_rules, roots, row_rule, same_kind, same_kinds, without_spans, without_spans_item, without_spans_items}
+use Rattle.payload.specs.Laws.Rules.{all_tags, all_values, distinct_keys, distinct_pairs, is_tag, is_value_tag, item_sound, kids_rule}
+use Rattle.payload.specs.Laws.Rules.{obey_rules, roots, row_rule, same_kind, same_kinds, without_spans, without_spans_item, without_spans_items}
 use Rattle.payload.specs.Reader.{Part, Reader, ◌>>◌, must, ok, pure}
 use Rattle.payload.specs.Reading.{node_key, read_many}
 use Rattle.payload.specs.declared.Capacities.{Capacities}

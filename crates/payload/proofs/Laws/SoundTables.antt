@@ -25,7 +25,8 @@ use Rattle.payload.specs.Shapes.{ItemKind, Kids, Shape, keys, kinds_of, no_value
 use Rattle.payload.specs.Sound.{Tables, give, give_node, is_nil, line_of, line_sound, no_more_rows, script_of, sound_script, spans_of, spans_sound}
 use Rattle.payload.specs.Spans.{Span, small_spans}
 use Rattle.payload.specs.Tables.{line_flag, line_name, line_starts, span_words, tables_of}
-use Rattle.payload.specs.Trees.{Item, LineIndex, Node, Script, Trees, code, forget_items, forget_line, forget_node, forget_script, forget_trees, kind_of, native_name, nil, node, node_of, number, record_name, single, size, span_count, string}
+use Rattle.payload.specs.Trees.{Item, LineIndex, Node, Script, Trees, code, forget_items, forget_line, forget_node, forget_script, forget_trees}
+use Rattle.payload.specs.Trees.{kind_of, native_name, nil, node, node_of, number, record_name, single, size, span_count, string}
 
 ---- every row has row_width words
 

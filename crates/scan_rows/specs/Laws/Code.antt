@@ -89,7 +89,8 @@ row_code t is n ws e = go (eqb t 32) refl
   where
     go : (b : Bool) → eqb t 32 ≡ b → when◌then◌else◌ b (get_or (row_words t is n ++ ws) 2 0) 0 ≡ span_items (forget_items is)
     go false q = sym (no_spans (kinds_of (shape t)) is e (code_only t (eqb-false t 32 q)))
-    go true q = let f = rw (eqb-true t 32 q) at e in let c = chunk_items is (unfold shape kinds_of when◌then◌else◌ in f) in rw c.2 (unfold items_words item_words part_words forget_items forget_item span_items span_item in (sym (add-zero _)))
+    go true q = let f = rw (eqb-true t 32 q) at e in let c = chunk_items is (unfold shape kinds_of when◌then◌else◌ in f) in
+        rw c.2 (unfold items_words item_words part_words forget_items forget_item span_items span_item in (sym (add-zero _)))
 
 code_total_lem : (ts : Trees Part) (m : ℕ) (ws : List ℕ) → Kinded (forget_trees ts) → code_total (size ts + m) (row_table ts ++ ws) ≡ span_count (forget_trees ts) + code_total m ws
 unfolding size row_table span_count forget_trees Kinded

@@ -123,7 +123,8 @@ items_are store rows i (k ∷ l ∷ m ∷ ks) h w = absurd (omega arith)
 
 module _ (store rows : List ℕ) (i : ℕ) (w : (k : ℕ) → word_at rows i k < 2 ^ 64) where
   pub row_fits_is : row_fits store rows i
-      ≡ ((words_fit store (first_test (tag_at rows i)) (word_at rows i 1) (word_at rows i 2) and words_fit store (second_test (tag_at rows i)) (word_at rows i (second_word (tag_at rows i))) (word_at rows i (second_word (tag_at rows i) + 1)))
+      ≡ ((words_fit store (first_test (tag_at rows i)) (word_at rows i 1) (word_at rows i 2)
+      and words_fit store (second_test (tag_at rows i)) (word_at rows i (second_word (tag_at rows i))) (word_at rows i (second_word (tag_at rows i) + 1)))
       and zeros_from rows i (used_words (tag_at rows i)) (row_width - used_words (tag_at rows i)))
   unfolding row_fits first_test second_test second_word
   row_fits_is = rw (items_are store rows i (kinds_of (shape (tag_at rows i))) (few_kinds (tag_at rows i)) w)

@@ -36,7 +36,9 @@ number_only (with_template ks) = false
 
 key_number : (t : ℕ) → is_key_tag t ≡ true → (t ≡ 6 → ⊥) → number_only (shape t) ≡ true
 unfolding when◌then◌else◌
-key_number t e h = go (shape_all (λ t sh. when◌then◌else◌ (is_key_tag t) (eqb t 6 || number_only sh) true) (unfold all_from shapes number_only is_key_tag ◌and◌ in refl) (unfold is_key_tag ◌and◌ in refl) (unfold is_key_tag ◌and◌ in refl) high t)
+key_number t e h =
+    go (shape_all (λ t sh. when◌then◌else◌ (is_key_tag t) (eqb t 6 || number_only sh) true) (unfold all_from shapes number_only is_key_tag ◌and◌ in refl)
+    (unfold is_key_tag ◌and◌ in refl) (unfold is_key_tag ◌and◌ in refl) high t)
   where
     high : (t : ℕ) → 26 < t → when◌then◌else◌ (is_key_tag t) (eqb t 6 || number_only (with_kids [] no_value)) true ≡ true
     high t h = unfold is_key_tag ◌and◌ in (rw (ne_eqb t 1 (λ e. omega arith), lt-leb t 6 (omega arith), lt-leb t 24 (omega arith), le-leb 3 t (omega arith), le-leb 19 t (omega arith)))

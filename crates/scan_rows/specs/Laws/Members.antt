@@ -134,5 +134,6 @@ module _ (store rows : List ℕ) (b : WholeRows rows) (d n i : ℕ) where
       let z : 1 + n ≡ n + 1 = omega arith in
       found_by {n = n} {m = n + 1} {i = j} {j = i} (leads_then (leads_is (one g.0 g.1)) (leads_made (read_many n (scan_value store d any_row)) (λ ts. cons g.0 ts) (at_row rows j))) (λ k q. rw z at (skip_add g.2 q)) s'
     where
-      one : (t : Node Part) → scan_value store d any_row (at_row rows i) ≡ ok t (at_row rows j) → scan_template (scan_value store d) n (at_row rows i) ≡ ◌>>=◌ (read_many n (scan_value store d any_row)) (λ ts. pure (cons t ts)) (at_row rows j)
+      one : (t : Node Part) → scan_value store d any_row (at_row rows i) ≡ ok t (at_row rows j)
+          → scan_template (scan_value store d) n (at_row rows i) ≡ ◌>>=◌ (read_many n (scan_value store d any_row)) (λ ts. pure (cons t ts)) (at_row rows j)
       one t q = unfold ◌>>=◌ and_then in (rw (function_is store rows i b.whole d f, q))

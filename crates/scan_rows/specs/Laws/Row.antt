@@ -14,7 +14,8 @@ use Rattle.payload.specs.Moved.{start_at}
 use Rattle.payload.specs.Reader.{Part, Result, ◌>>=◌, ◌>>◌, and_then, ok, pure, refused, set_place, set_rows, start, with_row}
 use Rattle.payload.specs.Reading.{read_many}
 use Rattle.payload.specs.Rows.{count_words, kids_count_words, kind_width, kinds_width, row_width, unused_words}
-use Rattle.payload.specs.Scan.{RowScan, Test, any_row, end_row, finish_row, first_word, is_function, next_word, scan_count, scan_item, scan_items, scan_kids, scan_part, scan_shape, scan_string, scan_untagged, scan_value, scan_with_kids, zero_words}
+use Rattle.payload.specs.Scan.{RowScan, Test, any_row, end_row, finish_row, first_word, is_function, next_word, scan_count}
+use Rattle.payload.specs.Scan.{scan_item, scan_items, scan_kids, scan_part, scan_shape, scan_string, scan_untagged, scan_value, scan_with_kids, zero_words}
 use Rattle.payload.specs.Shapes.{ItemKind, Kids, Shape, keys, kinds_of, no_value, one_value, pairs, shape, shapes, values, with_chunk, with_fields, with_kids, with_template}
 use Rattle.payload.specs.Sound.{part_at}
 use Rattle.payload.specs.Trees.{Node, cons, forget_items, node_of}
@@ -61,7 +62,8 @@ module _ (rows : List ℕ) where
     ---- items
 
     module _ (store : List ℕ) where
-      part_scanned : (k : ℕ) → k + 2 ≤ row_width → scan_part store (at_word rows i k) ≡ pass (leb (word_at rows i k + word_at rows i (k + 1)) (length store)) i (ok (part_at store (word_at rows i k) (word_at rows i (k + 1))) (at_word rows i (k + 2)))
+      part_scanned : (k : ℕ) → k + 2 ≤ row_width
+          → scan_part store (at_word rows i k) ≡ pass (leb (word_at rows i k + word_at rows i (k + 1)) (length store)) i (ok (part_at store (word_at rows i k) (word_at rows i (k + 1))) (at_word rows i (k + 2)))
       unfolding scan_part pure ◌>>=◌ ◌>>◌ and_then
       part_scanned k h =
           let e : k + 1 + 1 ≡ k + 2 = omega arith in
@@ -115,7 +117,9 @@ module _ (rows : List ℕ) where
         with_kids_scanned kinds kids h =
             let c = count_scanned kids (1 + kinds_width kinds) (omega arith) in
             let e : 1 + kinds_width kinds + length (kids_count_words kids 0) ≡ suc (kinds_width kinds + length (kids_count_words kids 0)) = omega arith in
-            let done = finish_scanned (row_width - suc (kinds_width kinds + length (kids_count_words kids 0))) (suc (kinds_width kinds + length (kids_count_words kids 0))) (g t (forget_items (items_of store rows i 1 kinds))) (omega arith) in
+            let done =
+            finish_scanned (row_width - suc (kinds_width kinds + length (kids_count_words kids 0))) (suc (kinds_width kinds + length (kids_count_words kids 0)))
+            (g t (forget_items (items_of store rows i 1 kinds))) (omega arith) in
             rw (items_scanned kinds 1 (omega arith), and_pass, c.1, e, done, and_pass, and_pass, c.2 r)
 
         shape_scanned : (sh : Shape) → suc (kinds_width (kinds_of sh) + length (count_words sh 0)) ≤ row_width

@@ -11,7 +11,10 @@ pub loop-k-preserved : goal.loop-k-preserved
 loop-k-preserved c =
     let l = c.loop-k in
     let w = c.args.spans.now in
-    elim c.if-spans-k.branch [ then-spans-k x ↦ counted_next w l.k l.n c.if-spans-k.n _ true l.invariant (omega arith) x.if-spans-k.true x.n-is | else-spans-k x ↦ counted_next w l.k l.n c.if-spans-k.n _ false l.invariant (omega arith) x.if-spans-k.false (omega (arith, x.n-is)) ]
+    elim c.if-spans-k.branch [
+      | then-spans-k x ↦ counted_next w l.k l.n c.if-spans-k.n _ true l.invariant (omega arith) x.if-spans-k.true x.n-is
+      | else-spans-k x ↦ counted_next w l.k l.n c.if-spans-k.n _ false l.invariant (omega arith) x.if-spans-k.false (omega (arith, x.n-is))
+    ]
 
 pub returns : goal.returns
 returns c =
