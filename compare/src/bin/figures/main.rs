@@ -78,9 +78,10 @@ time in proportion to length rises one mark for each mark.
 
 fn heading(project: &Path) -> String {
     format!(
-        "# Figures\n\nGathered on {} from commit {} by `cargo run --release --bin figures` in `compare/`, on {}.\n",
+        "# Figures\n\nGathered on {} from commit {} by `cargo run --release --bin figures` in `compare/`, with {}, on {}.\n",
         today::date(),
         runs::commit(project),
+        runs::kit(),
         runs::machine()
     )
 }

@@ -42,6 +42,15 @@ pub fn gate(project: &Path) -> io::Result<String> {
     }
 }
 
+/// The kit that proves and builds the port, as `rt version` names it.
+pub fn kit() -> String {
+    let run = Command::new("rt").arg("version").output();
+    match run {
+        Ok(run) if run.status.success() => text(&run).trim().to_string(),
+        _ => "an unknown kit".to_string(),
+    }
+}
+
 /// The commit that is checked out, or that there is none.
 pub fn commit(project: &Path) -> String {
     let run = Command::new("git")
