@@ -11,9 +11,8 @@ pub fn put_fields(answer: &mut [u64], fields: &[u64])
     if answer.len() < fields.len() {
         return;
     }
-    let mut i = 0;
-    while i < fields.len() {
-        answer[i] = fields[i];
-        i += 1;
+    // One by one: a copy of them all loads more bytes at once than were stored at once, and waits for them.
+    for (i, field) in fields.iter().enumerate() {
+        answer[i] = *field;
     }
 }

@@ -1,2 +1,3 @@
-pub mod Body
+pub mod Reads
+pub mod Advances
 pub mod Laws

@@ -1,72 +1,61 @@
-// The cursor: a record that holds the payload slice and a position. Its functions take it apart and call covered ones.
+// The cursor: a payload and a position in it, which each read moves on.
 #![tactic(auto)]
 
-ghost use Rattle.std.specs.Prelude.{◌≡◌};
-ghost use Rattle.varint.specs.Varint.{varint_of};
-ghost use Rattle.cursor.specs.Body.{body_of};
+ghost use Rattle.std.specs.Prelude.{◌≡◌, ◌≤◌, length, IfOk};
 
-use varint::Varint;
+use refusal::{Reason, Refusal};
 
 #[derive(Clone, Copy)]
 pub struct Cursor<'a> {
     pub payload: &'a [u8],
     pub at: usize,
+    ghost inside: { at ≤ length payload.now },
 }
 
-// A body's first byte and the place after it, or the place where too few bytes are left.
-#[derive(Clone, Copy)]
-pub enum Body {
-    At(usize, usize),
-    Short(usize),
-}
+impl<'a> Cursor<'a> {
+    ghost use Rattle.payload.specs.Numbers.{varint};
+    ghost use Rattle.payload.specs.Reader.{body, byte};
+    ghost use Rattle.cursor.specs.Advances.{Advances, Taken, answer_by, answer_of, part_at};
 
-// The work, which the functions over the cursor call with the slice and the position: the varint at a place, and the body of n bytes.
-fn uvarint_at(payload: &[u8], at: usize) -> Varint
-    ensures { result ≡ varint_of payload.now at }
-{
-    varint::uvarint(payload, at)
-}
-
-fn body_at(payload: &[u8], at: usize, n: usize) -> Body
-    ensures { result ≡ body_of payload.now at n }
-{
-    if at <= payload.len() {
-        if n <= payload.len() - at {
-            return Body::At(at, at + n);
-        } else {
-            return Body::Short(at);
-        }
+    // At a place of a payload.
+    pub fn new(payload: &'a [u8], at: usize) -> Cursor<'a>
+        requires { at ≤ length payload.now }
+        ensures { (result.payload ≡ payload.entry) × (result.at ≡ at) }
+    {
+        Cursor { payload, at }
     }
-    Body::Short(at)
-}
 
-fn cursor_at<'a>(payload: &'a [u8], at: usize) -> Cursor<'a>
-    ensures { (result.payload ≡ payload.entry) × (result.at ≡ at) }
-{
-    Cursor { payload, at }
-}
+    // The varint that stands here.
+    pub fn uvarint(&mut self) -> Result<u64, Refusal>
+        ensures { Advances self.old self.new varint (answer_of result self.new.at) }
+    {
+        let (number, next) = varint::uvarint(self.payload, self.at)?;
+        self.at = next;
+        Ok(number)
+    }
 
-fn uvarint<'a>(c: Cursor<'a>) -> Varint
-    ensures { result ≡ varint_of c.entry.payload.now c.entry.at }
-{
-    uvarint_at(c.payload, c.at)
-}
+    // The byte that stands here.
+    pub fn byte(&mut self) -> Result<u8, Refusal>
+        ensures { Advances self.old self.new byte (answer_of result self.new.at) }
+    {
+        if self.at == self.payload.len() {
+            return Err(Reason::EndInItem.at(self.at));
+        }
+        let b = self.payload[self.at];
+        self.at += 1;
+        Ok(b)
+    }
 
-fn take<'a>(c: Cursor<'a>, n: usize) -> Body
-    ensures { result ≡ body_of c.entry.payload.now c.entry.at n }
-{
-    body_at(c.payload, c.at, n)
-}
-
-// The same by plain parameters, for every caller that holds a slice and a number.
-pub fn read_uvarint(payload: &[u8], at: usize) -> Varint
-    ensures { result ≡ varint_of payload.now at }
-{
-    uvarint(cursor_at(payload, at))
-}
-
-pub fn read_body(payload: &[u8], at: usize, size: usize) -> Body
-    ensures { result ≡ body_of payload.now at size }
-{
-    take(cursor_at(payload, at), size)
+    // The next n bytes.
+    pub fn take(&mut self, n: usize) -> Result<&'a [u8], Refusal>
+        ensures advances { Advances self.old self.new (body n) (answer_by (part_at self.old.at) result self.new.at) }
+        ensures taken { IfOk result (λ bytes. Taken self.old n bytes.now self.new.at) }
+    {
+        if self.payload.len() - self.at < n {
+            return Err(Reason::EndInItem.at(self.at));
+        }
+        let from = self.at;
+        self.at += n;
+        Ok(&self.payload[from..self.at])
+    }
 }

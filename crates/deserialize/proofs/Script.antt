@@ -14,13 +14,14 @@ use Rattle.payload.specs.Reading.{Context, Payload, read_chunk, read_line_index}
 use Rattle.payload.specs.Rows.{row_width}
 use Rattle.payload.specs.Tables.{line_starts, read_answer, used_pool, used_rows, used_spans, used_starts}
 use Rattle.payload.specs.Trees.{LineIndex, Node}
-use Rattle.payload.specs.declared.Read.{Read}
-use Rattle.payload.specs.declared.Read.TheVariants as read
+use Rattle.payload.specs.Answers.{Read}
+use Rattle.refusal.specs.Answer as read
 use Rattle.read_items.specs.Context.{PoolFits, context_of, plain_words}
 use Rattle.read_items.specs.Laws.Context.{length_parts_of, length_plain_words, parts_words_parts_of, same_context}
-use Rattle.read_items.specs.Reads.{state_at, stopped}
+use Rattle.cursor.specs.Reads.{state_at, stopped}
+use Rattle.cursor.specs.declared.Cursor.{Cursor}
 use Rattle.read_lines.specs.LinesRead.{Accepted, InContext}
-use Rattle.read_lines.specs.declared.LineIndexAt.{LineIndexAt}
+use Rattle.read_lines.specs.declared.Lines.{Lines}
 use Rattle.read_values.specs.State.{start_at}
 use Rattle.read_values.specs.Did.{Fit, Ran, context, one_tree, rows_in, spans_in}
 use Rattle.payload.specs.declared.Capacities.{Capacities}
@@ -49,7 +50,7 @@ module _ (e : Context) (s : reader.State) where
 pub refused_leaves :
     {x : Result Payload} {n q : ℕ} {pool rows spans starts rows' spans' starts' : List ℕ} → x ≡ refused n q →
     rows' ≡ zeros (length rows) → spans' ≡ zeros (length spans) → starts' ≡ zeros (length starts) →
-    ScriptLeaves x pool rows spans starts rows' spans' starts' (read.Refused n q)
+    ScriptLeaves x pool rows spans starts rows' spans' starts' (read.refused n q)
 unfolding read_answer used_rows used_spans used_starts used_pool
 refused_leaves {rows = rows} {spans} {starts} e a b c = rw e (record {
   answer = refl;
@@ -68,38 +69,37 @@ stored_cleared :
 stored_cleared table used n e h s z = rw (s, e) at z ∙ zero_from_put table used (omega arith)
 
 module _ (names : List ℕ) {capacities : Capacities} {p pool rows rows₁ spans spans₁ : List ℕ} (at : ℕ) {s : State} {outer : Node Part}
-    (ran : Ran one_tree capacities p rows rows₁ spans spans₁ 0 0 s outer (read_chunk (context capacities p names pool) (state_at p at 0 0))) where
-  pub no_lines_read : {n q : ℕ} → InContext p pool capacities.starts s.at read_line_index (stopped n q)
+    (ran : Ran one_tree capacities p rows rows₁ spans spans₁ 0 0 s outer (read_chunk (context capacities p names pool) (state_at p at 0 0)))
+    {c c' : Cursor} (e : c.payload.now ≡ p) (at_is : c.at ≡ s.at) where
+  pub no_lines_read : {n q : ℕ} → InContext c c' pool capacities.starts read_line_index (stopped n q)
       → read_script (context capacities p names pool) (state_at p at 0 0) ≡ refused n q
   no_lines_read g =
-      script_no_lines (context capacities p names pool) (state_at p at 0 0) ran.is ((g.reads capacities names refl).is s.rows s.spans)
+      script_no_lines (context capacities p names pool) (state_at p at 0 0) ran.is ((rw (e, at_is) at (g.reads capacities names refl).reads).is s.rows s.spans)
 
-  module _ (fit : Fit capacities p rows spans (start_at at))
-      (whole : length pool ≡ 2 * (length pool / 2)) (inside : PoolFits p pool) where
+  module _ (fit : Fit capacities p rows spans (start_at at)) (whole : length pool ≡ 2 * (length pool / 2)) (inside : PoolFits p pool) where
     pub accepted_leaves :
-        {starts starts₁ rows' spans' starts' : List ℕ} {l : LineIndexAt} → capacities.starts ≤ length starts →
-        Accepted p pool starts starts₁ capacities.starts s.at read_line_index l →
+        {starts starts₁ rows' spans' starts' : List ℕ} {l : Lines} → capacities.starts ≤ length starts →
+        Accepted c c' pool starts starts₁ capacities.starts read_line_index l →
         rows' ≡ zero_from (row_width * s.rows) rows₁ → spans' ≡ zero_from (2 * s.spans) spans₁ → starts' ≡ zero_from l.starts starts₁ →
         ScriptLeaves (read_script (context capacities p names pool) (state_at p at 0 0)) pool rows spans starts rows' spans' starts'
-        (read.Accepted
+        (read.accepted
         (record {
-          consumed = l.next;
+          consumed = c'.at;
           rows = s.rows;
           spans = s.spans;
           starts = l.starts;
           strings = length pool / 2;
-          flag = l.flag;
-          name_o = l.name_o;
-          name_n = l.name_n;
+          name = l.name;
         }))
     unfolding context_of read_answer used_rows used_spans used_starts used_pool
-    accepted_leaves {starts} room g a b c =
-        rw (script_ok (context capacities p names pool) (state_at p at 0 0) ran.is ((g.is.reads capacities names refl).is s.rows s.spans))
+    accepted_leaves {starts} {l = l} room g a b d =
+        let lines = rw (e, at_is) at (g.is.reads capacities names refl).reads in
+        rw (script_ok (context capacities p names pool) (state_at p at 0 0) ran.is (lines.is s.rows s.spans))
         (record {
-          answer = cc (length_parts_of p (plain_words pool), length_plain_words pool);
+          answer = rw g.name_is (cc (length_parts_of p (plain_words pool), length_plain_words pool, g.each));
           rows_are = stored_cleared rows (rows_in one_tree outer) (row_width * s.rows) (omega (arith, ran.size)) (omega (arith, ran.used, fit.room)) ran.wrote a;
           spans_are = stored_cleared spans (spans_in one_tree outer) (2 * s.spans) (omega (arith, ran.spanned)) (omega (arith, ran.covered, fit.cover)) ran.filled b;
-          starts_are = stored_cleared starts (line_starts g.line) _ g.each (omega (arith, g.fits)) g.stored c;
+          starts_are = stored_cleared starts (line_starts g.line) _ g.each (omega (arith, g.fits)) g.stored d;
           strings_are = parts_words_parts_of p (plain_words pool) (length pool / 2) (length_plain_words pool ∙ whole) inside;
         })
 

@@ -1,1 +1,2 @@
+pub mod Hints
 pub mod Script

@@ -4,8 +4,8 @@ use Rattle.slices.specs.Zeros.{pad_to}
 use Rattle.payload.specs.Reader.{Reader, Result, ◌>>=◌, pure}
 use Rattle.payload.specs.Reading.{Context, Payload, read_chunk, read_line_index}
 use Rattle.payload.specs.Tables.{read_answer, used_pool, used_rows, used_spans, used_starts}
-use Rattle.payload.specs.declared.Read.{Read}
-use Rattle.payload.specs.declared.Read.TheVariants.{Accepted, Refused}
+use Rattle.payload.specs.Answers.{Read}
+use Rattle.refusal.specs.Answer as read
 use Rattle.read_items.specs.Context.{plain_words}
 
 -- what is read after the pool
@@ -14,8 +14,8 @@ read_script e = read_chunk e >>= λ outer. read_line_index e >>= λ line. pure (
 
 -- the words of the pool's strings that an answer uses: all, or none after a refusal
 abbrev pub pool_used : Read → List ℕ → List ℕ
-pool_used (Accepted counts) pool = pool
-pool_used (Refused n q) pool = []
+pool_used (read.accepted counts) pool = pool
+pool_used (read.refused n q) pool = []
 
 -- r is the answer of x, and each table has the words of x and zeros behind them; x has the strings of the pool table, whatever hints it has
 pub record ScriptLeaves (x : Result Payload) (pool rows spans starts rows' spans' starts' : List ℕ) (r : Read) : Type 0 where

@@ -13,138 +13,130 @@ const LINK_BASE: u64 = 0x8_0000;
 // A shorter list gets no hints.
 const LONG_LIST: usize = 1024;
 
-// What stands above the base in a word.
-fn above(pool: &[u64], i: usize) -> u64
-    requires { i < length pool.now }
-    ensures { result < 0x80_0000_0000 }
-{
-    pool[i] / HINT_BASE
-}
-
-// Puts a hint above the base in a word, or links.
-fn set_above(pool: &mut [u64], i: usize, hint: u64)
-    requires { i < length pool.old }
-    ensures { plain_words pool.new ≡ plain_words pool.old }
-{
-    pool[i] = pool[i] % HINT_BASE + hint % 0x80_0000_0000 * HINT_BASE;
-}
-
-// The first string of a chain.
-fn first_in(pool: &[u64], chain: usize) -> u64
-    requires { 2 * chain + 1 < length pool.now }
-    ensures { result < 0x10_0000 }
-{
-    above(pool, 2 * chain + 1) / LINK_BASE
-}
-
-// The string that comes after entry k in its chain.
-fn next_of(pool: &[u64], k: usize) -> u64
-    requires { 2 * k + 1 < length pool.now }
-    ensures { result < 0x8_0000 }
-{
-    above(pool, 2 * k + 1) % LINK_BASE
-}
-
 // The chain of a string: its hash, by the count of strings.
-fn chain_of(s: &[u8], from: usize, end: usize, strings: usize) -> usize
-    requires { (from ≤ end) × (end ≤ length s.now) × (0 < strings) }
+fn chain_of(string: &[u8], strings: usize) -> usize
+    requires { 0 < strings }
     ensures { result < strings }
 {
-    (trie::hash(&s[from..end]) % strings as u64) as usize
+    (trie::hash(string) % strings as u64) as usize
 }
 
-// Puts entry k before the others of its chain, unless it is more than twice as long as the longest name.
-fn link_string(bytes: &[u8], pool: &mut [u64], k: usize, longest: u64)
-    requires { PoolFits bytes.now pool.old × (2 * k + 1 < length pool.old) }
-    ensures { plain_words pool.new ≡ plain_words pool.old }
-{
-    let n = pool[2 * k + 1] % HINT_BASE;
-    if longest < n / 2 {
-        return;
-    }
-    let from = (pool[2 * k] % HINT_BASE) as usize;
-    let chain = chain_of(bytes, from, from + n as usize, pool.len() / 2);
-    let first = first_in(pool, chain) % LINK_BASE;
-    set_above(pool, 2 * k + 1, first_in(pool, k) * LINK_BASE + first);
-    let own = (k as u64 + 1) % LINK_BASE;
-    set_above(pool, 2 * chain + 1, own * LINK_BASE + next_of(pool, chain));
+// The strings of a payload, by its pool table, in which hints and links are put.
+#[derive(Drop)]
+struct Strings<'a> {
+    bytes: &'a [u8],
+    pool: &'a mut [u64],
+    ghost fits: { PoolFits bytes.now pool.now },
 }
 
-fn link_strings(bytes: &[u8], pool: &mut [u64], longest: u64)
-    requires { PoolFits bytes.now pool.old }
-    ensures { plain_words pool.new ≡ plain_words pool.old }
-{
-    let strings = pool.len() / 2;
-    let mut k: usize = 0;
-    while k < strings {
-        link_string(bytes, pool, k, longest);
-        k += 1;
-    }
-}
+impl<'a> Strings<'a> {
+    ghost use Rattle.deserialize.specs.Hints.{Keeps};
 
-// The index of the 0A that ends the name from `from` on, or the list's length.
-fn name_end(names: &[u8], from: usize) -> usize
-    requires { from ≤ length names.now }
-    ensures { (from ≤ result) × (result ≤ length names.now) }
-{
-    let mut i = from;
-    while i < names.len() {
-        if names[i] == 0x0A {
-            return i;
-        }
-        i += 1;
+    // How many there are.
+    fn count(&self) -> usize
+        ensures { result ≡ length self.now.pool.now / 2 }
+    {
+        self.pool.len() / 2
     }
-    i
-}
 
-// Gives entry k the hint `end`, if it is the name from `from` to there.
-fn hint_string(names: &[u8], from: usize, end: usize, bytes: &[u8], pool: &mut [u64], k: usize)
-    requires { (from ≤ end) × (end ≤ length names.now) × PoolFits bytes.now pool.old × (2 * k + 1 < length pool.old) }
-    ensures { plain_words pool.new ≡ plain_words pool.old }
-{
-    let n = (pool[2 * k + 1] % HINT_BASE) as usize;
-    if n != end - from {
-        return;
+    // String k.
+    fn string(&self, k: usize) -> &'a [u8]
+        requires { 2 * k + 1 < length self.now.pool.now }
+    {
+        let from = (self.pool[2 * k] % HINT_BASE) as usize;
+        let n = (self.pool[2 * k + 1] % HINT_BASE) as usize;
+        &self.bytes[from..from + n]
     }
-    let o = (pool[2 * k] % HINT_BASE) as usize;
-    if slices::equal_parts(bytes, o, names, from, n) {
-        set_above(pool, 2 * k, end as u64);
-    }
-}
 
-// Gives the hint `end` to each string that is the name. A link leads to an earlier string, or is not followed.
-fn hint_name(names: &[u8], from: usize, end: usize, bytes: &[u8], pool: &mut [u64])
-    requires { (from ≤ end) × (end ≤ length names.now) × PoolFits bytes.now pool.old × (1 < length pool.old) }
-    ensures { plain_words pool.new ≡ plain_words pool.old }
-{
-    let strings = pool.len() / 2;
-    let mut link = first_in(pool, chain_of(names, from, end, strings)) as usize;
-    while 0 < link {
-        let k = link - 1;
-        if strings <= k {
+    // What stands above the base in a word.
+    fn above(&self, i: usize) -> u64
+        requires { i < length self.now.pool.now }
+        ensures { result < 0x80_0000_0000 }
+    {
+        self.pool[i] / HINT_BASE
+    }
+
+    // Puts a hint above the base in a word, or links.
+    fn set_above(&mut self, i: usize, hint: u64)
+        requires { i < length self.old.pool.now }
+        ensures { Keeps self.old self.new }
+    {
+        self.pool[i] = self.pool[i] % HINT_BASE + hint % 0x80_0000_0000 * HINT_BASE;
+    }
+
+    // The first string of a chain.
+    fn first_in(&self, chain: usize) -> u64
+        requires { 2 * chain + 1 < length self.now.pool.now }
+        ensures { result < 0x10_0000 }
+    {
+        self.above(2 * chain + 1) / LINK_BASE
+    }
+
+    // The string that comes after string k in its chain.
+    fn next_of(&self, k: usize) -> u64
+        requires { 2 * k + 1 < length self.now.pool.now }
+        ensures { result < 0x8_0000 }
+    {
+        self.above(2 * k + 1) % LINK_BASE
+    }
+
+    // Puts string k before the others of its chain, unless it is more than twice as long as the longest name.
+    fn link(&mut self, k: usize, longest: u64)
+        requires { 2 * k + 1 < length self.old.pool.now }
+        ensures { Keeps self.old self.new }
+    {
+        let string = self.string(k);
+        if longest < string.len() as u64 / 2 {
             return;
         }
-        hint_string(names, from, end, bytes, pool, k);
-        let next = next_of(pool, k) as usize;
-        if link <= next {
-            return;
-        }
-        link = next;
+        let chain = chain_of(string, self.count());
+        let first = self.first_in(chain) % LINK_BASE;
+        self.set_above(2 * k + 1, self.first_in(k) * LINK_BASE + first);
+        let own = (k as u64 + 1) % LINK_BASE;
+        self.set_above(2 * chain + 1, own * LINK_BASE + self.next_of(chain));
     }
-}
 
-fn hint_names(names: &[u8], bytes: &[u8], pool: &mut [u64])
-    requires { PoolFits bytes.now pool.old × (1 < length pool.old) }
-    ensures { plain_words pool.new ≡ plain_words pool.old }
-{
-    let mut from: usize = 0;
-    while from < names.len() {
-        let end = name_end(names, from);
-        if end == names.len() {
-            return;
+    fn link_all(&mut self, longest: u64)
+        ensures { Keeps self.old self.new }
+    {
+        for k in 0..self.count() {
+            self.link(k, longest);
         }
-        hint_name(names, from, end, bytes, pool);
-        from = end + 1;
+    }
+
+    // Gives the hint `end` to each string that is the name. A link leads to an earlier string, or is not followed.
+    fn hint_name(&mut self, name: &[u8], end: usize)
+        requires { 1 < length self.old.pool.now }
+        ensures { Keeps self.old self.new }
+    {
+        let strings = self.count();
+        let mut link = self.first_in(chain_of(name, strings)) as usize;
+        while 0 < link {
+            let k = link - 1;
+            if strings <= k {
+                return;
+            }
+            if self.string(k) == name {
+                self.set_above(2 * k, end as u64);
+            }
+            let next = self.next_of(k) as usize;
+            if link <= next {
+                return;
+            }
+            link = next;
+        }
+    }
+
+    fn hint_names(&mut self, names: &[u8])
+        requires { 1 < length self.old.pool.now }
+        ensures { Keeps self.old self.new }
+    {
+        let mut from: usize = 0;
+        while let Some(n) = names[from..].iter().position(|byte| *byte == b'\n') {
+            let end = from + n;
+            self.hint_name(&names[from..end], end);
+            from = end + 1;
+        }
     }
 }
 
@@ -154,48 +146,36 @@ fn longest_name(names: &[u8]) -> u64
 {
     let mut longest: u64 = 0;
     let mut n: u64 = 0;
-    let mut i: usize = 0;
-    while i < LONG_LIST {
-        n += 1;
-        if names[i] == 0x0A {
-            n = 0;
-        }
-        if longest < n {
-            longest = n;
-        }
-        i += 1;
+    for byte in &names[..LONG_LIST] {
+        n = if *byte == b'\n' { 0 } else { n + 1 };
+        longest = longest.max(n);
     }
     longest
 }
 
-// How many strings are to be linked.
+// How many strings are to be linked. A `for`, since the count of a filter takes a tenth longer.
 fn short_strings(pool: &[u64], longest: u64) -> usize
     ensures { result ≤ length pool.now / 2 }
 {
     let mut count: usize = 0;
-    let mut k: usize = 0;
-    while k < pool.len() / 2 {
-        if pool[2 * k + 1] / 2 <= longest {
+    for entry in pool.chunks_exact(2) {
+        if entry[1] / 2 <= longest {
             count += 1;
         }
-        k += 1;
     }
     count
 }
 
-// The bytes 08 among 128. It has no exit in between, so that it compiles to vectors.
-fn eights_in_block(bytes: &[u8], from: usize) -> u8
-    requires { from + 128 ≤ length bytes.now }
-    ensures { result ≤ 128 }
+// The bytes 08 in a block. A `for` that counts in a byte and has no exit, so that it compiles to vectors, as the count of a filter does not.
+fn eights_in_block(block: &[u8]) -> u8
+    requires { length block.now ≤ 128 }
+    ensures { result ≤ length block.now }
 {
-    let end = from + 128;
     let mut count: u8 = 0;
-    let mut i = from;
-    while i < end {
-        if bytes[i] == 8 {
+    for byte in block {
+        if *byte == 8 {
             count += 1;
         }
-        i += 1;
     }
     count
 }
@@ -206,10 +186,8 @@ fn eights(bytes: &[u8], at: usize) -> usize
     ensures { result ≤ length bytes.now }
 {
     let mut count: usize = 0;
-    let mut i = at;
-    while 128 <= bytes.len() - i {
-        count += eights_in_block(bytes, i) as usize;
-        i += 128;
+    for block in bytes[at..].chunks_exact(128) {
+        count += usize::from(eights_in_block(block));
     }
     count
 }
@@ -247,17 +225,16 @@ pub(crate) fn add(names: &[u8], bytes: &[u8], pool: &mut [u64])
     requires { (1024 ≤ length names.now) × (1 < length pool.old) × PoolFits bytes.now pool.old }
     ensures { plain_words pool.new ≡ plain_words pool.old }
 {
-    link_strings(bytes, pool, longest_name(names));
-    hint_names(names, bytes, pool);
+    let mut strings = Strings { bytes, pool };
+    strings.link_all(longest_name(names));
+    strings.hint_names(names);
 }
 
 // Takes away all that stands above the base.
 pub(crate) fn take_away(pool: &mut [u64])
     ensures { pool.new ≡ plain_words pool.old }
 {
-    let mut i: usize = 0;
-    while i < pool.len() {
-        pool[i] = pool[i] % HINT_BASE;
-        i += 1;
+    for word in pool {
+        *word %= HINT_BASE;
     }
 }

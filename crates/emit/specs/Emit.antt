@@ -43,10 +43,6 @@ emit comparing p s b = output (put s.out s.at b) (place_after comparing p s.at b
 unfoldable pub output_limit : Bool → ℕ
 output_limit comparing = cond comparing 0 limit
 
-pub record Ready (comparing : Bool) (o : List ℕ) (at : ℕ) : Type 0 where
-  pub room : length o ≤ output_limit comparing
-  pub place : at ≤ stopped
-
 -- the bytes b led from the output o and the place at to o' and at'
 pub record Emitted (comparing : Bool) (p o o' : List ℕ) (at at' : ℕ) (b : List ℕ) : Type 0 where
   pub is : output o' at' ≡ emit comparing p (output o at) b

@@ -1,4 +1,5 @@
 pub mod Emit
+pub mod Emitter
 pub mod Bytes
 pub mod Lent
 pub mod Whole

@@ -1,2 +1,4 @@
 pub mod Emit
+pub mod Expected
+pub mod Emits
 pub mod Laws

@@ -3,8 +3,8 @@ use Rattle.std.specs.Prelude.{Bool, cond, List, ℕ, ltb, length}
 use Rattle.slices.specs.LittleEndian.{to_le_bytes}
 use Rattle.answer.specs.PutIfRoom.{put_if_room}
 use Rattle.payload.specs.declared.Capacities.{Capacities}
-use Rattle.varint.specs.declared.Varint.{Varint}
-use Rattle.varint.specs.declared.Varint.TheVariants.{Number, Refused}
+use Rattle.varint.specs.Varint.{Varint}
+use Rattle.varint.specs.Varint.{Number, Refused}
 use Rattle.varint.specs.Varint.{next_of}
 
 -- 1 where a test holds, else 0

@@ -11,15 +11,14 @@ ghost use Rattle.payload.specs.Answers.{read_number};
 ghost use Rattle.payload.specs.Tables.{read_answer};
 ghost use Rattle.host.specs.Host.{flag, used_of, number_after, check_capacities};
 
-use payload::{Program, Read};
-use varint::Varint;
+use payload::Program;
 
 // 1 where the bytes are UTF-8, else 0.
 #[unsafe(no_mangle)]
 pub extern "C" fn rlc2_is_utf8(bytes: &[u8]) -> u64
     ensures { result ≡ flag (is_utf8 bytes.now) }
 {
-    if utf8::is_utf8(bytes) { 1 } else { 0 }
+    u64::from(utf8::is_utf8(bytes))
 }
 
 // Writes the eight bytes of n to the front of out, the lowest first.
@@ -27,13 +26,7 @@ fn put_word(out: &mut [u8], n: u64)
     requires { 8 ≤ length out.old }
     ensures { out.new ≡ put out.old 0 (to_le_bytes 8 n) }
 {
-    let mut rest = n;
-    let mut i = 0;
-    while i < 8 {
-        out[i] = (rest % 256) as u8;
-        rest = rest / 256;
-        i += 1;
-    }
+    out[..8].copy_from_slice(&n.to_le_bytes());
 }
 
 // Reads the varint at the front of the bytes: gives how many it has, and puts its number into the first eight bytes of `number`.
@@ -46,13 +39,11 @@ pub extern "C" fn rlc2_uvarint(bytes: &[u8], number: &mut [u8]) -> usize
     if number.len() < 8 {
         return 0;
     }
-    match varint::uvarint(bytes, 0) {
-        Varint::Number(n, next) => {
-            put_word(number, n);
-            next
-        }
-        Varint::Refused(_, _) => 0,
-    }
+    let Ok((n, used)) = varint::uvarint(bytes, 0) else {
+        return 0;
+    };
+    put_word(number, n);
+    used
 }
 
 // The house check with tables of its own: 512 rows of five words, 1,024 spans and 256 strings of two, 512 starts. Gives 0 where the payload passes, or the
@@ -73,7 +64,7 @@ pub extern "C" fn rlc2_house_check(payload: &[u8], names: &[u8]) -> u64
         &mut starts,
         &mut pool,
     ) {
-        Read::Accepted(_) => 0,
-        Read::Refused(number, _) => number,
+        Ok(_) => 0,
+        Err(refusal) => u64::from(refusal.reason),
     }
 }

@@ -1,7 +1,7 @@
 -- What the calls of the varint layer give: the words of one answer, and numbers read or written one after the other.
 use Rattle.std.specs.Prelude.{cond, List, [], ◌∷◌, ◌++◌, ℕ, zero, suc, ◌+◌, ◌-◌, leb, length}
-use Rattle.varint.specs.declared.Varint.{Varint}
-use Rattle.varint.specs.declared.Varint.TheVariants.{Number, Refused}
+use Rattle.varint.specs.Varint.{Varint}
+use Rattle.varint.specs.Varint.{Number, Refused}
 use Rattle.varint.specs.Uleb128.{uleb128}
 use Rattle.varint.specs.Varint.{varint_of, value_of, next_of, place_of}
 

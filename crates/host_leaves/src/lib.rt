@@ -9,8 +9,6 @@ ghost use Rattle.varint.specs.Varint.{varint_of, number_of};
 ghost use Rattle.signed.specs.Signed.{zigzag_of, unzigzag_of};
 ghost use Rattle.host_leaves.specs.HostLeaves.{fields, place_after, numbers_of, bytes_of};
 
-use varint::Varint;
-
 // Reads the varint at `at`: gives the refusal's number or 0, and puts value, place after it and refused place into the answer's first words.
 #[unsafe(no_mangle)]
 pub extern "C" fn rlc2_uvarint_at(bytes: &[u8], at: usize, answer: &mut [u64]) -> u64
@@ -18,13 +16,13 @@ pub extern "C" fn rlc2_uvarint_at(bytes: &[u8], at: usize, answer: &mut [u64]) -
     ensures answer_after { answer.new ≡ put_if_room answer.old 0 (fields (varint_of bytes.now at)) }
 {
     match varint::uvarint(bytes, at) {
-        Varint::Number(n, next) => {
+        Ok((n, next)) => {
             answer::put_fields(answer, &[n, next as u64, 0]);
             0
         }
-        Varint::Refused(number, place) => {
-            answer::put_fields(answer, &[0, 0, place as u64]);
-            number
+        Err(refusal) => {
+            answer::put_fields(answer, &[0, 0, refusal.place as u64]);
+            u64::from(refusal.reason)
         }
     }
 }
@@ -82,20 +80,14 @@ pub extern "C" fn rlc2_read_all(bytes: &[u8], numbers: &mut [u64]) -> usize
     ensures numbers_after { numbers.new ≡ put numbers.old 0 (numbers_of (length numbers.old) bytes.now 0) }
 {
     let mut at = 0;
-    let mut count = 0;
-    while count < numbers.len() {
-        match varint::uvarint(bytes, at) {
-            Varint::Number(n, next) => {
-                numbers[count] = n;
-                at = next;
-            }
-            Varint::Refused(_, _) => {
-                return count;
-            }
-        }
-        count += 1;
+    for (count, number) in numbers.iter_mut().enumerate() {
+        let Ok((n, next)) = varint::uvarint(bytes, at) else {
+            return count;
+        };
+        *number = n;
+        at = next;
     }
-    count
+    numbers.len()
 }
 
 // Writes numbers one after the other, up to the first that does not fit. Gives how many bytes.
@@ -105,14 +97,11 @@ pub extern "C" fn rlc2_write_all(numbers: &[u64], out: &mut [u8]) -> usize
     ensures out_after { out.new ≡ put out.old 0 (bytes_of (length out.old) numbers.now) }
 {
     let mut at = 0;
-    let mut i = 0;
-    while i < numbers.len() {
-        let n = numbers[i];
-        if too_wide(n, out.len() - at) {
+    for n in numbers {
+        if too_wide(*n, out.len() - at) {
             return at;
         }
-        at = varint::write_uvarint(out, at, n);
-        i += 1;
+        at = varint::write_uvarint(out, at, *n);
     }
     at
 }

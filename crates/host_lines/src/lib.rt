@@ -4,11 +4,11 @@
 ghost use Rattle.std.specs.Prelude.{◌≡◌, length};
 ghost use Rattle.slices.specs.Zeros.{pad_to};
 ghost use Rattle.answer.specs.PutIfRoom.{put_if_room};
-ghost use Rattle.line_index.specs.LineIndex.{line_index, kept, number_of, line_index_fields};
+ghost use Rattle.refusal.specs.Answer.{number_of};
+ghost use Rattle.line_index.specs.LineIndex.{line_index, kept, line_index_fields};
 ghost use Rattle.line_index.specs.LineCol.{line_col, line_col_fields};
-ghost use Rattle.line_index.specs.LineCol.{number_of as refusal_of};
 
-use line_index::{LineCol, LineIndex};
+use line_index::LineIndex;
 
 // The starts of the lines of a text.
 #[unsafe(no_mangle)]
@@ -18,12 +18,13 @@ pub extern "C" fn rlc2_line_starts(text: &[u8], starts: &mut [u32], answer: &mut
     ensures answer_after { answer.new ≡ put_if_room answer.old 0 (line_index_fields (line_index text.now (length starts.old))) }
 {
     match LineIndex::new(text, starts) {
-        LineIndex::Starts(count) => {
-            answer::put_fields(answer, &[0, count as u64]);
+        Ok(index) => {
+            answer::put_fields(answer, &[0, index.count as u64]);
             0
         }
-        LineIndex::Refused(number, place) => {
-            answer::put_fields(answer, &[number, place as u64]);
+        Err(refusal) => {
+            let number = u64::from(refusal.reason);
+            answer::put_fields(answer, &[number, refusal.place as u64]);
             number
         }
     }
@@ -32,16 +33,17 @@ pub extern "C" fn rlc2_line_starts(text: &[u8], starts: &mut [u32], answer: &mut
 // The line and column of an offset.
 #[unsafe(no_mangle)]
 pub extern "C" fn rlc2_line_col(starts: &[u32], offset: u64, answer: &mut [u64]) -> u64
-    ensures value { result ≡ refusal_of (line_col starts.now offset) }
+    ensures value { result ≡ number_of (line_col starts.now offset) }
     ensures answer_after { answer.new ≡ put_if_room answer.old 0 (line_col_fields (line_col starts.now offset)) }
 {
     match line_index::line_col(starts, offset) {
-        LineCol::At(line, column) => {
-            answer::put_fields(answer, &[0, 0, line as u64, column]);
+        Ok(at) => {
+            answer::put_fields(answer, &[0, 0, at.line as u64, at.column]);
             0
         }
-        LineCol::Refused(number, place) => {
-            answer::put_fields(answer, &[number, place as u64, 0, 0]);
+        Err(refusal) => {
+            let number = u64::from(refusal.reason);
+            answer::put_fields(answer, &[number, refusal.place as u64, 0, 0]);
             number
         }
     }

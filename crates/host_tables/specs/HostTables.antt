@@ -5,7 +5,7 @@ use Rattle.payload.specs.Answers.{read_fields, read_number}
 use Rattle.payload.specs.Reader.{Result}
 use Rattle.payload.specs.Reading.{Payload}
 use Rattle.payload.specs.Tables.{Leaves, fields_of, read_answer}
-use Rattle.payload.specs.declared.Read.{Read}
+use Rattle.payload.specs.Answers.{Read}
 
 -- What putting an answer into lent words leaves: its number, and its fields in front.
 pub record PutRead (read : Read) (answer answer' : List ℕ) (r : ℕ) : Type 0 where

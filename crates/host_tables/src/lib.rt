@@ -4,18 +4,26 @@
 mod write;
 
 ghost use Rattle.std.specs.Prelude.{length};
+ghost use Rattle.refusal.specs.Answer.{answer_of};
 ghost use Rattle.payload.specs.House.{house};
 ghost use Rattle.payload.specs.Tables.{capacities_of, reading};
 ghost use Rattle.host_tables.specs.HostTables.{HostRead, PutRead};
 
-use payload::Read;
+use payload::{Counts, Program};
+use refusal::Refusal;
 
 // Puts the fields of a read or a check into the answer, and gives its number.
-fn put_read(read: Read, answer: &mut [u64]) -> u64
-    ensures { PutRead read answer.old answer.new result }
+fn put_read(read: Result<Counts, Refusal>, answer: &mut [u64]) -> u64
+    ensures { PutRead (answer_of read) answer.old answer.new result }
 {
     match read {
-        Read::Accepted(counts) => {
+        Ok(counts) => {
+            let Program {
+                flag,
+                name_o,
+                name_n,
+                ..
+            } = Program::from(counts);
             answer::put_fields(
                 answer,
                 &[
@@ -25,15 +33,16 @@ fn put_read(read: Read, answer: &mut [u64]) -> u64
                     counts.spans as u64,
                     counts.starts as u64,
                     counts.strings as u64,
-                    counts.flag,
-                    counts.name_o as u64,
-                    counts.name_n as u64,
+                    flag,
+                    name_o as u64,
+                    name_n as u64,
                 ],
             );
             0
         }
-        Read::Refused(number, place) => {
-            answer::put_fields(answer, &[number, place as u64, 0, 0, 0, 0, 0, 0, 0]);
+        Err(refusal) => {
+            let number = u64::from(refusal.reason);
+            answer::put_fields(answer, &[number, refusal.place as u64, 0, 0, 0, 0, 0, 0, 0]);
             number
         }
     }

@@ -6,16 +6,13 @@ ghost use Rattle.answer.specs.PutIfRoom.{put_if_room};
 ghost use Rattle.payload.specs.Answers.{written_number};
 ghost use Rattle.host_tables.specs.Write.{program_of, host_writing};
 
-use payload::{Program, Written};
+use payload::Program;
 
 // A word of the program record: the empty program's where it is missing.
 fn word_or_zero(counts: &[u64], k: usize) -> u64
     ensures { result ≡ get_or counts.now k 0 }
 {
-    if k < counts.len() {
-        return counts[k];
-    }
-    0
+    counts.get(k).copied().unwrap_or(0)
 }
 
 fn program_of(counts: &[u64]) -> Program
@@ -52,12 +49,13 @@ pub extern "C" fn rlc2_serialize(
         (writing_fields (host_writing store.now counts.now rows.now spans.now starts.now (length pool.old) (length out.old))) }
 {
     match serialize::serialize_payload(store, program_of(counts), rows, spans, starts, pool, out) {
-        Written::Accepted(length) => {
+        Ok(length) => {
             answer::put_fields(answer, &[0, length as u64]);
             0
         }
-        Written::Refused(number, place) => {
-            answer::put_fields(answer, &[number, place as u64]);
+        Err(refusal) => {
+            let number = u64::from(refusal.reason);
+            answer::put_fields(answer, &[number, refusal.place as u64]);
             number
         }
     }

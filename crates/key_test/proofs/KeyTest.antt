@@ -1,27 +1,21 @@
 -- The key test on the words of a row table, by the index of a row.
-use mathlib.Core.Bool.{Bool, true, false, cond, ◌&&◌, and-eq-true_iff}
+use mathlib.Core.Bool.{Bool, true, false, cond, ◌&&◌}
 use mathlib.Core.List.{List, [], ◌∷◌}
 use mathlib.Core.Path.{◌≡◌, refl, ap, ◌∙◌}
 use Prim.Native.Nat.{ℕ, suc, ◌+◌, ◌*◌, ◌-◌, ◌≤◌, ◌<◌, min}
 use native.Mathlib.Omega.{arith}
-use lib.Dec.{eqb, leb}
-use lib.ListN.{drop, get_or, length, take}
+use lib.Dec.{eqb}
+use lib.ListN.{drop, get_or, take}
 use lib.Seq.{drop-drop, get_or-drop, get_or-take}
-use borrow.Author.Tests.{leb-true}
 use Rattle.payload.specs.Choice.{when◌then◌else◌}
 use Rattle.payload.specs.Laws.Pool.{false≢true}
 use Rattle.payload.specs.Rows.{kind_width, kinds_width, row_width}
 use Rattle.payload.specs.Shapes.{Shape, no_value, one_value, values, keys, pairs, with_kids, with_chunk, with_fields, with_template, shape, shapes}
 use Rattle.row_layout.specs.Under.{count_in, rows_under}
-use Rattle.key_test.specs.Keys.{tag_of, most_rows, rows_told, same_key, same_string, seen_in, stands}
+use Rattle.key_test.specs.Keys.{tag_of, most_rows, rows_told, same_key, same_string, seen_in}
 use Rattle.key_test.proofs.Tags.{no_kids, one_kid, first_counts}
 
 ---- strings and keys compared
-
-pub stands_in : (p : List ℕ) (o n : ℕ) → stands p o n ≡ true → o + n ≤ length p
-stands_in p o n e =
-    let h = (and-eq-true_iff (leb n (length p)) (leb o (length p - n))).0 e in
-    omega (arith, leb-true n (length p) h.0, leb-true o (length p - n) h.1)
 
 pub at_zero : (rows : List ℕ) (a : ℕ) → get_or (drop a rows) 0 0 ≡ get_or rows a 0
 at_zero rows a = let z : a + 0 ≡ a = omega arith in get_or-drop a rows 0 0 ∙ ap (λ (k : ℕ). get_or rows k 0) z

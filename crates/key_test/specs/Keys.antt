@@ -1,9 +1,11 @@
 -- The test of a key against the keys before it, on the words of a row table.
-use Rattle.std.specs.Prelude.{Bool, cond, false, ◌&&◌, ◌||◌, List, ℕ, zero, suc, ◌+◌, ◌*◌, ◌-◌, min, eqb, leb, drop, get_or, length, take}
+use Rattle.std.specs.Prelude.{Bool, cond, false, ◌&&◌, ◌||◌, List, ℕ, zero, suc, ◌+◌, ◌*◌, ◌-◌, min, eqb, leb, drop, get_or, length, take, Result, Ok, Err}
 use Rattle.slices.specs.Same.{same}
 use Rattle.payload.specs.Rows.{row_width}
 use Rattle.payload.specs.Shapes.{is_key_tag, shape}
 use Rattle.payload.specs.Tables.{limits}
+use Rattle.refusal.specs.Number.{number}
+use Rattle.refusal.specs.declared.Reason.{Reason}
 use Rattle.row_layout.specs.Under.{count_in, rows_under}
 
 -- a row's words stand at the front of the list
@@ -49,3 +51,8 @@ key_refusal p rows gap first own =
     cond (is_key_tag (tag_of (drop (row_width * own) rows)))
     (cond (seen_in p (drop (row_width * own) rows) gap 0 (own - first) (drop (row_width * first) rows)) 10 0)
     9
+
+-- 0, or the number of the reason
+abbrev pub number_told : Result (Unit {0}) Reason → ℕ
+number_told (Ok u) = 0
+number_told (Err reason) = number reason

@@ -1,40 +1,62 @@
 // The test of a key of a set or map: its tag, and the keys before it in the row table.
 #![tactic(auto)]
 
-ghost use Rattle.std.specs.Prelude.{◌≡◌, ◌+◌, ◌-◌, ◌*◌, ◌≤◌, min, length, drop};
+ghost use Rattle.std.specs.Prelude.{◌≡◌, ◌+◌, ◌-◌, ◌*◌, ◌≤◌, min, length, drop, get_or};
 ghost use Rattle.payload.specs.Rows.{row_width};
-ghost use Rattle.key_test.specs.Keys.{stands, same_string, same_key, most_rows, rows_told, seen_in, key_refusal};
+ghost use Rattle.key_test.specs.Keys.{stands, same_string, same_key, most_rows, rows_told, seen_in, key_refusal, number_told};
 
 use payload::Program;
+use refusal::Reason;
 
-// Whether n bytes from o on stand in `bytes`.
-fn part_stands(bytes: &[u8], o: u64, n: u64) -> bool
-    ensures { result ≡ stands bytes.now o n }
-{
-    let len = bytes.len() as u64;
-    if len < n {
-        return false;
+// A part of a byte string, which need not lie in it.
+#[derive(Clone, Copy)]
+struct Part {
+    offset: u64,
+    size: u64,
+}
+
+impl Part {
+    // Whether the part lies in `bytes`.
+    fn lies_in(self, bytes: &[u8]) -> bool
+        ensures { result ≡ stands bytes.now self.offset self.size }
+    {
+        let len = bytes.len() as u64;
+        self.size <= len && self.offset <= len - self.size
     }
-    o <= len - n
 }
 
 // Whether two strings of `bytes` are equal: lengths first, then offsets, then bytes.
-fn same_string(bytes: &[u8], o: u64, n: u64, q: u64, m: u64) -> bool
-    ensures { result ≡ same_string bytes.now o n q m }
+#[tactic(auto, using(std::proofs::lemmas::Bool::Decides::nat_tests), unfolding(crate::specs::Keys::same_string))]
+fn same_string(bytes: &[u8], one: Part, other: Part) -> bool
+    ensures { result ≡ same_string bytes.now one.offset one.size other.offset other.size }
 {
-    if n != m {
+    if one.size != other.size {
         return false;
     }
-    if o == q {
+    if one.offset == other.offset {
         return true;
     }
-    if !part_stands(bytes, o, n) {
+    if !one.lies_in(bytes) || !other.lies_in(bytes) {
         return false;
     }
-    if !part_stands(bytes, q, n) {
-        return false;
+    slices::equal_parts(
+        bytes,
+        one.offset as usize,
+        bytes,
+        other.offset as usize,
+        one.size as usize,
+    )
+}
+
+// The part that the words after a row's tag name. The row begins at a word of the table.
+fn part_in_row(rows: &[u64], at: usize) -> Part
+    requires { at + row_width ≤ length rows.now }
+    ensures { result ≡ record { offset = get_or rows.now (at + 1) 0; size = get_or rows.now (at + 2) 0 } }
+{
+    Part {
+        offset: rows[at + 1],
+        size: rows[at + 2],
     }
-    slices::equal_parts(bytes, o as usize, bytes, q as usize, n as usize)
 }
 
 // Whether rows i and j hold the same key.
@@ -49,13 +71,7 @@ fn same_key(bytes: &[u8], rows: &[u64], i: usize, j: usize) -> bool
         return false;
     }
     if tag == 6 {
-        return same_string(
-            bytes,
-            rows[key + 1],
-            rows[key + 2],
-            rows[other + 1],
-            rows[other + 2],
-        );
+        return same_string(bytes, part_in_row(rows, key), part_in_row(rows, other));
     }
     rows[key + 1] == rows[other + 1]
 }
@@ -63,10 +79,7 @@ fn same_key(bytes: &[u8], rows: &[u64], i: usize, j: usize) -> bool
 fn capped(count: u64) -> u64
     ensures { (result ≡ min most_rows count) × (result ≤ most_rows) }
 {
-    if count < Program::ROWS as u64 {
-        return count;
-    }
-    Program::ROWS as u64
+    count.min(Program::ROWS as u64)
 }
 
 // How many rows row i tells right under it. The cap keeps the sums of `seen_in` small.
@@ -116,32 +129,36 @@ fn seen_in(bytes: &[u8], rows: &[u64], first: usize, own: usize, gap: u64) -> bo
     ensures { result ≡ seen_in bytes.now (drop (row_width * own) rows.now) gap 0 (own - first) (drop (row_width * first) rows.now) }
 {
     let mut skip: u64 = 0;
-    let mut i = first;
-    while i < own {
+    for i in first..own {
         if skip == 0 {
             if same_key(bytes, rows, own, i) {
                 return true;
             }
             skip = gap;
-            i += 1;
-            continue;
+        } else {
+            skip = skip - 1 + rows_told(rows, i);
         }
-        skip = skip - 1 + rows_told(rows, i);
-        i += 1;
     }
     false
 }
 
-// Refusal 9 or 10 of the key in row `own` of a set or map whose rows begin at `first`, or 0.
-pub fn test_key(bytes: &[u8], rows: &[u64], first: usize, own: usize, gap: u64) -> u64
+// Whether the key in row `own` of a set or map whose rows begin at `first` is one that may stand there, and none of the keys before it.
+#[tactic(auto, using(std::proofs::lemmas::Bool::Decides::nat_tests, crate::proofs::KeyTest::at_zero), unfolding(crate::specs::Keys::key_refusal))]
+pub fn test_key(
+    bytes: &[u8],
+    rows: &[u64],
+    first: usize,
+    own: usize,
+    gap: u64,
+) -> Result<(), Reason>
     requires { (row_width * own + row_width ≤ length rows.now) × (first ≤ own) × (own ≤ most_rows) × (gap ≤ 1) }
-    ensures { result ≡ key_refusal bytes.now rows.now gap first own }
+    ensures { number_told result ≡ key_refusal bytes.now rows.now gap first own }
 {
     if !row_layout::is_key_tag(rows[Program::ROW_WIDTH * own]) {
-        return 9;
+        return Err(Reason::ForbiddenKey);
     }
     if seen_in(bytes, rows, first, own, gap) {
-        return 10;
+        return Err(Reason::RepeatedKey);
     }
-    0
+    Ok(())
 }

@@ -1,7 +1,7 @@
 -- The line and column of an offset, by the starts of the lines.
 use Rattle.std.specs.Prelude.{cond, List, [], ◌∷◌, ℕ, suc, ◌+◌, ◌-◌, ◌%◌, ◌^◌, max, leb, ltb, length, get_or}
+use Rattle.refusal.specs.Answer.{Answer, accepted, refused}
 use Rattle.line_index.specs.declared.LineCol.{LineCol}
-use Rattle.line_index.specs.declared.LineCol.TheVariants.{At, Refused}
 
 -- how many starts from the front rise strictly, the first above p
 unfoldable pub rising_above : ℕ → List ℕ → ℕ
@@ -26,21 +26,14 @@ abbrev pub column_at : List ℕ → ℕ → ℕ
 column_at starts o = o - get_or starts (line_at starts o - 1) 0 + 1
 
 -- The answer: 20 at the first start that is not above its predecessor; else the line and column of the offset modulo 2^32.
-unfoldable pub line_col : List ℕ → ℕ → LineCol
+unfoldable pub line_col : List ℕ → ℕ → Answer LineCol
 line_col starts offset =
     let o = offset % 2 ^ 32 in
     cond (ltb (rising_prefix starts) (length starts))
-    (Refused 20 (rising_prefix starts))
-    (At (line_at starts o) (column_at starts o))
+    (refused 20 (rising_prefix starts))
+    (accepted (record { line = line_at starts o; column = column_at starts o }))
 
----- document 01's number and values for each case of the answer
-
--- 0, or the refusal's number
-abbrev pub number_of : LineCol → ℕ
-number_of (At line column) = 0
-number_of (Refused number place) = number
-
--- 0, place 0, line and column; or number and place, other fields 0
-abbrev pub line_col_fields : LineCol → List ℕ
-line_col_fields (At line column) = 0 ∷ 0 ∷ line ∷ column ∷ []
-line_col_fields (Refused number place) = number ∷ place ∷ 0 ∷ 0 ∷ []
+-- document 01's values for each case of the answer: 0, place 0, line and column; or number and place, other fields 0
+abbrev pub line_col_fields : Answer LineCol → List ℕ
+line_col_fields (accepted at) = 0 ∷ 0 ∷ at.line ∷ at.column ∷ []
+line_col_fields (refused number place) = number ∷ place ∷ 0 ∷ 0 ∷ []

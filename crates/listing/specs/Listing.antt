@@ -1,8 +1,8 @@
 -- The text of a listing: its lines as bytes, with numbers in decimal, right-justified in columns.
 use Rattle.std.specs.Prelude.{cond, List, [], ◌++◌, ◌∷◌, ℕ, zero, suc, ◌+◌, ◌-◌, ◌*◌, ◌/◌, ◌%◌, ltb, length, get_or, replicate}
 use Rattle.payload.specs.Rows.{row_width}
-use Rattle.payload.specs.declared.Read.{Read}
-use Rattle.payload.specs.declared.Read.TheVariants.{Accepted, Refused}
+use Rattle.payload.specs.Answers.{Read}
+use Rattle.refusal.specs.Answer as read
 
 -- the decimal digits of n in ASCII, at most `most` before the last
 unfoldable pub decimal_digits : ℕ → ℕ → List ℕ
@@ -35,12 +35,12 @@ answer_line number place = column 5 number ++ (column 21 place ++ (10 ∷ []))
 
 -- how many rows are listed: the used ones, and none at a refusal
 unfoldable pub listed_rows : Read → ℕ
-listed_rows (Accepted c) = c.rows
-listed_rows (Refused number place) = 0
+listed_rows (read.accepted c) = c.rows
+listed_rows (read.refused number place) = 0
 
 unfoldable pub last_line : Read → List ℕ
-last_line (Accepted c) = answer_line 0 c.consumed
-last_line (Refused number place) = answer_line number place
+last_line (read.accepted c) = answer_line 0 c.consumed
+last_line (read.refused number place) = answer_line number place
 
 -- the listing of a read that gave this answer and left this row table
 unfoldable pub listing : Read → List ℕ → List ℕ

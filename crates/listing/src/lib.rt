@@ -3,107 +3,115 @@
 
 ghost use Rattle.std.specs.Prelude.{◌≡◌, [], ◌∷◌, ◌+◌, ◌-◌, ◌*◌, ◌≤◌, length, replicate};
 ghost use Rattle.slices.specs.Put.{put};
+ghost use Rattle.refusal.specs.Answer.{answer_of};
 ghost use Rattle.payload.specs.Rows.{row_width};
 ghost use Rattle.listing.specs.Listing.{column, row_line, row_lines, answer_line, listed_rows, listing};
-ghost use Rattle.listing.specs.Puts.{Puts};
+ghost use Rattle.listing.specs.Puts.{Adds};
 
-use payload::{Program, Read};
+use payload::{Counts, Program};
+use refusal::Refusal;
 
-fn put_spaces(out: &mut [u8], at: usize, count: usize)
-    requires { at + count ≤ length out.old }
-    ensures { out.new ≡ put out.old at (replicate count 32) }
-{
-    let mut i = 0;
-    while i < count {
-        out[at + i] = b' ';
-        i += 1;
+// A text that grows in a lent buffer, and where it ends.
+#[derive(Drop)]
+struct Text<'a> {
+    out: &'a mut [u8],
+    end: usize,
+}
+
+impl<'a> Text<'a> {
+    fn put_bytes(&mut self, bytes: &[u8])
+        requires { self.old.end + length bytes.now ≤ length self.old.out.now }
+        ensures { Adds self.old bytes.now self.new }
+    {
+        let out = &mut *self.out;
+        slices::copy_part(out, self.end, bytes);
+        self.end += bytes.len();
     }
-}
 
-// How many spaces stand before so many digits.
-fn spaces_before(digits: usize, width: usize) -> usize
-    ensures { result ≡ width - digits }
-{
-    if digits < width { width - digits } else { 0 }
-}
-
-// A column of at most 21 bytes: a u64 has at most 20 digits.
-fn put_column(out: &mut [u8], at: usize, width: usize, n: u64) -> usize
-    requires { (width ≤ 21) × (at + 21 ≤ length out.old) }
-    ensures puts { Puts out.old at (column width n) result out.new }
-    ensures upper_bound { result ≤ at + 21 }
-{
-    let mut digits = [0u8; 20];
-    let k = io::decimal(n, &mut digits);
-    let spaces = spaces_before(k, width);
-    let from = at + spaces;
-    put_spaces(out, at, spaces);
-    slices::copy_part(out, from, &digits[..k]);
-    from + k
-}
-
-fn put_line_end(out: &mut [u8], at: usize) -> usize
-    requires { at + 1 ≤ length out.old }
-    ensures { Puts out.old at (10 ∷ []) result out.new }
-{
-    out[at] = b'\n';
-    at + 1
-}
-
-// The line of row i: six columns.
-fn put_row(out: &mut [u8], at: usize, rows: &[u64], i: usize) -> usize
-    requires { (row_width * i + row_width ≤ length rows.now) × (at + 127 ≤ length out.old) }
-    ensures puts { Puts out.old at (row_line i rows.now) result out.new }
-    ensures upper_bound { result ≤ at + 127 }
-{
-    let from = Program::ROW_WIDTH * i;
-    let tag = put_column(out, at, 5, i as u64);
-    let first = put_column(out, tag, 4, rows[from]);
-    let second = put_column(out, first, 21, rows[from + 1]);
-    let third = put_column(out, second, 21, rows[from + 2]);
-    let fourth = put_column(out, third, 21, rows[from + 3]);
-    let end = put_column(out, fourth, 21, rows[from + 4]);
-    put_line_end(out, end)
-}
-
-// The lines of the first rows.
-fn put_rows(out: &mut [u8], rows: &[u64], used: usize) -> usize
-    requires { (row_width * used ≤ length rows.now) × (127 * used ≤ length out.old) }
-    ensures puts { Puts out.old 0 (row_lines used rows.now) result out.new }
-    ensures upper_bound { result ≤ 127 * used }
-{
-    let mut at = 0;
-    let mut i = 0;
-    while i < used {
-        at = put_row(out, at, rows, i);
-        i += 1;
+    fn put_spaces(&mut self, count: usize)
+        requires { self.old.end + count ≤ length self.old.out.now }
+        ensures { Adds self.old (replicate count 32) self.new }
+    {
+        let out = &mut *self.out;
+        out[self.end..self.end + count].fill(b' ');
+        self.end += count;
     }
-    at
-}
 
-// The last line: two columns.
-fn put_answer(out: &mut [u8], at: usize, number: u64, place: usize) -> usize
-    requires { at + 43 ≤ length out.old }
-    ensures puts { Puts out.old at (answer_line number place) result out.new }
-    ensures upper_bound { result ≤ at + 43 }
-{
-    let middle = put_column(out, at, 5, number);
-    let end = put_column(out, middle, 21, place as u64);
-    put_line_end(out, end)
+    // A column of at most 21 bytes: a u64 has at most 20 digits.
+    fn put_column(&mut self, width: usize, n: u64)
+        requires { (width ≤ 21) × (self.old.end + 21 ≤ length self.old.out.now) }
+        ensures adds { Adds self.old (column width n) self.new }
+        ensures upper_bound { self.new.end ≤ self.old.end + 21 }
+    {
+        let mut digits = [0u8; 20];
+        let k = io::decimal(n, &mut digits);
+        self.put_spaces(width.saturating_sub(k));
+        self.put_bytes(&digits[..k]);
+    }
+
+    // The line of row i: six columns.
+    fn put_row(&mut self, rows: &[u64], i: usize)
+        requires { (row_width * i + row_width ≤ length rows.now) × (self.old.end + 127 ≤ length self.old.out.now) }
+        ensures adds { Adds self.old (row_line i rows.now) self.new }
+        ensures upper_bound { self.new.end ≤ self.old.end + 127 }
+    {
+        let from = Program::ROW_WIDTH * i;
+        self.put_column(5, i as u64);
+        self.put_column(4, rows[from]);
+        self.put_column(21, rows[from + 1]);
+        self.put_column(21, rows[from + 2]);
+        self.put_column(21, rows[from + 3]);
+        self.put_column(21, rows[from + 4]);
+        self.put_bytes(b"\n");
+    }
+
+    // The lines of the first rows.
+    fn put_rows(&mut self, rows: &[u64], used: usize)
+        requires { (row_width * used ≤ length rows.now) × (self.old.end + 127 * used ≤ length self.old.out.now) }
+        ensures adds { Adds self.old (row_lines used rows.now) self.new }
+        ensures upper_bound { self.new.end ≤ self.old.end + 127 * used }
+    {
+        for i in 0..used {
+            self.put_row(rows, i);
+        }
+    }
+
+    // The last line: two columns.
+    fn put_answer(&mut self, number: u64, place: usize)
+        requires { self.old.end + 43 ≤ length self.old.out.now }
+        ensures adds { Adds self.old (answer_line number place) self.new }
+        ensures upper_bound { self.new.end ≤ self.old.end + 43 }
+    {
+        self.put_column(5, number);
+        self.put_column(21, place as u64);
+        self.put_bytes(b"\n");
+    }
+
+    // The lines of the used rows, and the last line.
+    #[tactic(auto, unfolding(crate::specs::Listing::listed_rows))]
+    fn put_all(&mut self, answer: Result<Counts, Refusal>, rows: &[u64])
+        requires { (row_width * listed_rows (answer_of answer) ≤ length rows.now) × (self.old.end + 127 * listed_rows (answer_of answer) + 43 ≤ length self.old.out.now) }
+        ensures adds { Adds self.old (listing (answer_of answer) rows.now) self.new }
+        ensures upper_bound { self.new.end ≤ self.old.end + 127 * listed_rows (answer_of answer) + 43 }
+    {
+        match answer {
+            Ok(counts) => {
+                self.put_rows(rows, counts.rows);
+                self.put_answer(0, counts.consumed);
+            }
+            Err(refusal) => self.put_answer(u64::from(refusal.reason), refusal.place),
+        }
+    }
 }
 
 // The whole text from the buffer's first byte on, and its length. There is room for the longest lines: 127 bytes for each row, 43 for the last line.
-pub fn put_listing(answer: Read, rows: &[u64], out: &mut [u8]) -> usize
-    requires { (row_width * listed_rows answer ≤ length rows.now) × (127 * listed_rows answer + 43 ≤ length out.old) }
-    ensures value { result ≡ length (listing answer rows.now) }
-    ensures out_after { out.new ≡ put out.old 0 (listing answer rows.now) }
+pub fn put_listing(answer: Result<Counts, Refusal>, rows: &[u64], out: &mut [u8]) -> usize
+    requires { (row_width * listed_rows (answer_of answer) ≤ length rows.now) × (127 * listed_rows (answer_of answer) + 43 ≤ length out.old) }
+    ensures value { result ≡ length (listing (answer_of answer) rows.now) }
+    ensures out_after { out.new ≡ put out.old 0 (listing (answer_of answer) rows.now) }
     ensures upper_bound { result ≤ length out.new }
 {
-    match answer {
-        Read::Accepted(counts) => {
-            let at = put_rows(out, rows, counts.rows);
-            put_answer(out, at, 0, counts.consumed)
-        }
-        Read::Refused(number, place) => put_answer(out, 0, number, place),
-    }
+    let mut text = Text { out, end: 0 };
+    text.put_all(answer, rows);
+    text.end
 }

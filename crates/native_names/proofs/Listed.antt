@@ -1,5 +1,5 @@
 -- A string is listed exactly if it is a name that ends at some index of the list.
-use mathlib.Core.Bool.{Bool, true, false, ◌&&◌, ◌||◌, false≢true}
+use mathlib.Core.Bool.{Bool, true, false, ◌&&◌, ◌||◌, not, false≢true}
 use mathlib.Core.List.{List, [], ◌∷◌, ◌++◌}
 use mathlib.Core.Path.{◌≡◌, refl, ap, subst, sym, ◌∙◌}
 use Prim.Native.Nat.{ℕ, zero, suc, ◌+◌, ◌-◌, ◌≤◌, ◌<◌}
@@ -8,6 +8,8 @@ use lib.Dec.{eqb, ltb}
 use lib.ListN.{drop, drop_of_length-le, get_or, length, length-drop, length-take, take}
 use lib.Seq.{drop-cons, get_or-drop, get_or-take}
 use borrow.Author.Tests.{eq-eqb, eqb-false, eqb-true, ltb-false, ltb-true, ne_eqb}
+use Rattle.std.specs.List.{list_any}
+use Rattle.std.proofs.lemmas.List.Folds.{list_any_at}
 use Rattle.slices.specs.Same.{same}
 use Rattle.slices.specs.Laws.Same.{same_eq, same_refl}
 use Rattle.payload.specs.Choice.{◌or◌, when◌then◌else◌}
@@ -182,3 +184,55 @@ module _ (s p : List ℕ) (o last : ℕ) where
       let small : m < suc m = omega arith in
       let q : get_or s (k - 1) 0 ≡ get_or p (o + m) 0 = rw y at (simp (get_or-take, get_or-drop) at (ap (λ (l : List ℕ). get_or l m 0) e.bytes)) in
       (e.ends, e.begins h, q ∙ sym (rw z at (l.some (omega arith))))
+
+---- the tests for a name that ends at an index
+
+module _ (s x : List ℕ) (i : ℕ) where
+  -- the bytes before the index, as they are compared
+  abbrev before : List ℕ
+  before = take (i - (i - length x)) (drop (i - length x) s)
+
+  pub name_ends : length x ≤ i → get_or s i 0 ≡ 0x0A → (0 < i - length x → get_or s (i - length x - 1) 0 ≡ 0x0A) → same x before ≡ true → Clear s (i - length x) i
+      → NameEnds s x (length x) i
+  name_ends l e b q c =
+      let y : i - (length x + 1) ≡ i - length x - 1 = omega arith in
+      let z : i - (i - length x) ≡ length x = omega arith in
+      record { long = l; ends = e; begins = λ h. rw y (b (omega arith)); bytes = rw z at (sym (same_eq x before q)); clear = c }
+
+  pub name_starts : NameEnds s x (length x) i → 0 < i - length x → get_or s (i - length x - 1) 0 ≡ 0x0A
+  name_starts e h = let y : i - length x - 1 ≡ i - (length x + 1) = omega arith in rw y (e.begins (omega arith))
+
+  pub name_same : NameEnds s x (length x) i → same x before ≡ true
+  name_same e = let z : i - (i - length x) ≡ length x = omega (arith, e.long) in rw (z, e.bytes) (same_refl x)
+
+---- the search for a 0A
+
+an_end : (xs : List ℕ) → list_any (λ y. eqb y 0x0A) xs ≡ true → (k : ℕ) × (k < length xs) × (get_or xs k 0 ≡ 0x0A)
+an_end [] e = absurd (false≢true e)
+an_end (x ∷ xs) e = go (eqb x 0x0A) refl (an_end xs) e
+  where
+    go :
+        (t : Bool) → eqb x 0x0A ≡ t → (list_any (λ y. eqb y 0x0A) xs ≡ true → (k : ℕ) × (k < length xs) × (get_or xs k 0 ≡ 0x0A)) →
+        (t || list_any (λ y. eqb y 0x0A) xs) ≡ true → (k : ℕ) × (k < length (x ∷ xs)) × (get_or (x ∷ xs) k 0 ≡ 0x0A)
+    go true f later e = (0, omega arith, eqb-true x 0x0A f)
+    go false f later e = let w = later e in (suc w.0, omega (arith, w.1), w.2)
+
+module _ (s : List ℕ) (from end : ℕ) (inside : (from ≤ end) × (end ≤ length s)) where
+  part_at : (j : ℕ) → j < end - from → get_or (take (end - from) (drop from s)) j 0 ≡ get_or s (from + j) 0
+  part_at j h = get_or-take (end - from) (drop from s) j 0 h ∙ get_or-drop from s j 0
+
+  pub clear_by : (r : Bool) → r ≡ list_any (λ y. eqb y 0x0A) (take (end - from) (drop from s)) → Decides (Clear s from end) (not r)
+  clear_by true e = record {
+    yes = λ f. absurd (false≢true f);
+    no = λ f clear.
+        let w = an_end (take (end - from) (drop from s)) (sym e) in
+        let l : w.0 < end - from = omega (arith, w.1, length-take (end - from) (drop from s)) in
+        clear (from + w.0) (omega arith) (omega arith) (sym (part_at w.0 l) ∙ w.2);
+  }
+  clear_by false e = record {
+    yes = λ f k h l g.
+        let j : from + (k - from) ≡ k = omega arith in
+        let m : k - from < end - from = omega arith in
+        false≢true (e ∙ list_any_at (λ y. eqb y 0x0A) (take (end - from) (drop from s)) (k - from) 0 (simp (length-take, length-drop) (omega arith)) (eq-eqb _ _ (part_at (k - from) m ∙ rw j g)));
+    no = λ f. absurd (false≢true (sym f));
+  }

@@ -11,14 +11,7 @@ fn is_clear(names: &[u8], from: usize, end: usize) -> bool
     requires { (from ≤ end) × (end ≤ length names.now) }
     ensures { Decides (Clear names.now from end) result }
 {
-    let mut k = from;
-    while k < end {
-        if names[k] == 0x0A {
-            return false;
-        }
-        k += 1;
-    }
-    true
+    !names[from..end].contains(&0x0A)
 }
 
 // Whether a name may begin at `from`.
@@ -26,41 +19,31 @@ fn begins_at(names: &[u8], from: usize) -> bool
     requires { from ≤ length names.now }
     ensures { Decides (0 < from → get_or names.now (from - 1) 0 ≡ 0x0A) result }
 {
-    if from == 0 {
-        return true;
-    }
-    names[from - 1] == 0x0A
+    from == 0 || names[from - 1] == 0x0A
 }
 
-// Whether the string at `o` is a name that ends at i.
-fn ends_at(names: &[u8], i: usize, bytes: &[u8], o: usize, n: usize) -> bool
-    requires { (i < length names.now) × (n ≤ i) × (o + n ≤ length bytes.now) }
-    ensures { Decides (NameEnds names.now (take n (drop o bytes.now)) n i) result }
+// Whether the string is a name that ends at i.
+#[tactic(auto, using(crate::proofs::Listed::name_ends, crate::proofs::Listed::name_starts, crate::proofs::Listed::name_same))]
+fn ends_at(names: &[u8], i: usize, name: &[u8]) -> bool
+    requires { (i < length names.now) × (length name.now ≤ i) }
+    ensures { Decides (NameEnds names.now name.now (length name.now) i) result }
 {
-    if names[i] != 0x0A {
+    let from = i - name.len();
+    if names[i] != 0x0A || !begins_at(names, from) {
         return false;
     }
-    let from = i - n;
-    if !begins_at(names, from) {
-        return false;
-    }
-    if !slices::equal_parts(bytes, o, names, from, n) {
-        return false;
-    }
-    is_clear(names, from, i)
+    slices::equal(name, &names[from..i]) && is_clear(names, from, i)
 }
 
-// Whether the string at `o` is a name that ends between `from` and `to`.
-fn ends_between(names: &[u8], from: usize, to: usize, bytes: &[u8], o: usize, n: usize) -> bool
-    requires { (n ≤ from) × (from ≤ to) × (to ≤ length names.now) × (o + n ≤ length bytes.now) }
-    ensures { Decides ((k : ℕ) × (from ≤ k) × (k < to) × NameEnds names.now (take n (drop o bytes.now)) n k) result }
+// Whether the string is a name that ends between `from` and `to`.
+fn ends_between(names: &[u8], from: usize, to: usize, name: &[u8]) -> bool
+    requires { (length name.now ≤ from) × (from ≤ to) × (to ≤ length names.now) }
+    ensures { Decides ((k : ℕ) × (from ≤ k) × (k < to) × NameEnds names.now name.now (length name.now) k) result }
 {
-    let mut i = from;
-    while i < to {
-        if ends_at(names, i, bytes, o, n) {
+    for i in from..to {
+        if ends_at(names, i, name) {
             return true;
         }
-        i += 1;
     }
     false
 }
@@ -71,76 +54,66 @@ fn may_end(names: &[u8], i: usize, n: usize, last: u8) -> bool
     ensures { result ≡ false → (k : ℕ) → i ≤ k → k < i + 32 → MayEnd names.now n last k → ⊥ }
 {
     let gap = n + 1;
-    let end = i + 32;
     let mut any = false;
-    let mut k = i;
-    while k < end {
+    for k in i..i + 32 {
         any = any | ((names[k] == 0x0A) & (names[k - gap] == 0x0A) & (names[k - 1] == last));
-        k += 1;
     }
     any
 }
 
-// The last byte of the string at `o`; of an empty one the 0A before it in the list.
-fn last_byte(bytes: &[u8], o: usize, n: usize) -> u8
-    requires { o + n ≤ length bytes.now }
-    ensures { LastByte bytes.now o n result }
+// The last byte of the string; of an empty one the 0A before it in the list.
+fn last_byte(name: &[u8]) -> u8
+    ensures { LastByte name.now 0 (length name.now) result }
 {
-    if n == 0 {
-        return 0x0A;
+    match name.last() {
+        Some(last) => *last,
+        None => 0x0A,
     }
-    bytes[o + n - 1]
 }
 
-// Whether the string at `o`, which ends in `last`, is a name that ends in the 32 bytes from i on.
-fn ends_in_block(names: &[u8], i: usize, last: u8, bytes: &[u8], o: usize, n: usize) -> bool
-    requires { (n < i) × (i + 32 ≤ length names.now) × (o + n ≤ length bytes.now) × LastByte bytes.now o n last }
-    ensures { Decides ((k : ℕ) × (i ≤ k) × (k < i + 32) × NameEnds names.now (take n (drop o bytes.now)) n k) result }
+// Whether the string, which ends in `last`, is a name that ends in the 32 bytes from i on.
+fn ends_in_block(names: &[u8], i: usize, last: u8, name: &[u8]) -> bool
+    requires { (length name.now < i) × (i + 32 ≤ length names.now) × LastByte name.now 0 (length name.now) last }
+    ensures { Decides ((k : ℕ) × (i ≤ k) × (k < i + 32) × NameEnds names.now name.now (length name.now) k) result }
 {
-    if !may_end(names, i, n, last) {
-        return false;
-    }
-    ends_between(names, i, i + 32, bytes, o, n)
+    may_end(names, i, name.len(), last) && ends_between(names, i, i + 32, name)
 }
 
-// A true says that the string at `o` is a name that ends at the hint, which is any number.
-fn ends_at_hint(names: &[u8], hint: u64, bytes: &[u8], o: usize, n: usize) -> bool
-    requires { o + n ≤ length bytes.now }
-    ensures { result ≡ true → (hint < length names.now) × NameEnds names.now (take n (drop o bytes.now)) n hint }
+// A true says that the string is a name that ends at the hint, which is any number.
+fn ends_at_hint(names: &[u8], hint: u64, name: &[u8]) -> bool
+    ensures { result ≡ true → (hint < length names.now) × NameEnds names.now name.now (length name.now) hint }
 {
     let i = hint as usize;
-    if i < n {
-        return false;
-    }
-    if names.len() <= i {
-        return false;
-    }
-    ends_at(names, i, bytes, o, n)
+    name.len() <= i && i < names.len() && ends_at(names, i, name)
 }
 
-// Whether the string at `o` is a name of the list. The hint is where its name may end: it is looked at first, and nothing is known of it.
+// Whether the n bytes at `o` are a name of the list.
 pub fn is_listed(names: &[u8], bytes: &[u8], o: u64, n: u64, hint: u64) -> bool
     requires { o + n ≤ length bytes.now }
     ensures { result ≡ is_listed names.now (take n (drop o bytes.now)) }
 {
-    let offset = o as usize;
-    let size = n as usize;
-    if names.len() <= size {
+    let start = o as usize;
+    let name = &bytes[start..start + n as usize];
+    is_name(names, name, hint)
+}
+
+// Whether the string is a name of the list. The hint is where its name may end: it is looked at first, and nothing is known of it.
+fn is_name(names: &[u8], name: &[u8], hint: u64) -> bool
+    ensures { result ≡ is_listed names.now name.now }
+{
+    if names.len() <= name.len() {
         return false;
     }
-    if ends_at_hint(names, hint, bytes, offset, size) {
+    if ends_at_hint(names, hint, name) || ends_at(names, name.len(), name) {
         return true;
     }
-    if ends_at(names, size, bytes, offset, size) {
-        return true;
-    }
-    let last = last_byte(bytes, offset, size);
-    let mut i = size + 1;
-    while 32 <= names.len() - i {
-        if ends_in_block(names, i, last, bytes, offset, size) {
+    let last = last_byte(name);
+    let first = name.len() + 1;
+    let blocks = (names.len() - first) / 32;
+    for block in 0..blocks {
+        if ends_in_block(names, first + 32 * block, last, name) {
             return true;
         }
-        i += 32;
     }
-    ends_between(names, i, names.len(), bytes, offset, size)
+    ends_between(names, first + 32 * blocks, names.len(), name)
 }

@@ -9,8 +9,8 @@ use Rattle.payload.specs.Reader.{Part, State, ok}
 use Rattle.payload.specs.Rows.{row_width}
 use Rattle.payload.specs.declared.Capacities.{Capacities}
 use Rattle.payload.specs.declared.Counts.{Counts}
-use Rattle.payload.specs.declared.Read.{Read}
-use Rattle.payload.specs.declared.Read.TheVariants as read
+use Rattle.payload.specs.Answers.{Read, flag_of, length_of, offset_of}
+use Rattle.refusal.specs.Answer as read
 use Rattle.payload.specs.Sound.{Tables, script_of}
 use Rattle.payload.specs.Tables.{limits, parts_words, size_limit}
 use Rattle.payload.specs.Trees.{Item, Script, Trees, code, forget_script, native_name, nil, node, number, record_name, single, size, span_count, start_count, string}
@@ -63,7 +63,7 @@ PartsOf store (x ∷ xs) = (x.offset + length x.bytes ≤ length store) × (take
 -- the counts say where each table's used words end. The pool table has the strings of T's pool, in its order, as parts of p. Zeros stand behind.
 pub record GivesBack (T : Tables) (p rows spans starts pool rows' spans' starts' pool' : List ℕ) (r : Read) : Type 0 where
   pub counts : Counts
-  pub accepted : r ≡ read.Accepted counts
+  pub accepted : r ≡ read.accepted counts
   pub all_consumed : counts.consumed ≡ length p
   pub program : Tables
   pub same_program : Equal T program
@@ -71,9 +71,9 @@ pub record GivesBack (T : Tables) (p rows spans starts pool rows' spans' starts'
   pub rows_used : row_width * counts.rows ≡ length program.rows
   pub spans_used : 2 * counts.spans ≡ length program.spans
   pub starts_used : counts.starts ≡ length program.starts
-  pub flag_is : program.flag ≡ counts.flag
-  pub name_offset_is : program.name_offset ≡ counts.name_o
-  pub name_length_is : program.name_length ≡ counts.name_n
+  pub flag_is : program.flag ≡ flag_of counts.name
+  pub name_offset_is : program.name_offset ≡ offset_of counts.name
+  pub name_length_is : program.name_length ≡ length_of counts.name
   pub rows_are : rows' ≡ pad_to (length rows) program.rows
   pub spans_are : spans' ≡ pad_to (length spans) program.spans
   pub starts_are : starts' ≡ pad_to (length starts) program.starts

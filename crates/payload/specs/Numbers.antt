@@ -4,8 +4,8 @@ use Rattle.slices.specs.LittleEndian.{from_le_bytes, to_le_bytes}
 use Rattle.signed.specs.Signed.{signed_of, unzigzag_of, word_of, zigzag_of}
 use Rattle.varint.specs.Uleb128.{uleb128}
 use Rattle.varint.specs.Varint.{varint_of}
-use Rattle.varint.specs.declared.Varint.{Varint}
-use Rattle.varint.specs.declared.Varint.TheVariants.{Number, Refused}
+use Rattle.varint.specs.Varint.{Varint}
+use Rattle.varint.specs.Varint.{Number, Refused}
 use Rattle.payload.specs.Choice.{◌and◌, ◌or◌, when◌then◌else◌}
 use Rattle.payload.specs.Reader.{Reader, ◌>>=◌, ◌>>◌, advanced, body, byte, here, must, ok, pure, refused}
 

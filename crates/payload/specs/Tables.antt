@@ -1,5 +1,6 @@
 -- The tables of a script, and lent tables: their capacities, and what an answer leaves in them.
 use Rattle.std.specs.Prelude.{List, [], ◌++◌, ◌∷◌, ◌≡◌, ◌/◌, min, ℕ, ltb, length}
+use Rattle.std.specs.Prelude as std
 use Rattle.std.proofs.Math.Option.{Option, none, some}
 use Rattle.slices.specs.Zeros.{pad_to}
 use Rattle.payload.specs.Answers.{read_fields}
@@ -8,13 +9,14 @@ use Rattle.payload.specs.Names.{is_listed}
 use Rattle.payload.specs.Reader.{Part, Result, State, ok, refused, start}
 use Rattle.payload.specs.Reading.{Payload, read_payload}
 use Rattle.payload.specs.declared.Capacities.{Capacities}
+use Rattle.payload.specs.declared.Extent.{Extent}
 use Rattle.payload.specs.Rows.{part_words, row_table, row_width, span_table}
 use Rattle.payload.specs.Sound.{Tables}
 use Rattle.payload.specs.Spans.{Span}
 use Rattle.payload.specs.Trees.{LineIndex, Script, single}
 use Rattle.payload.specs.declared.Counts.{Counts}
-use Rattle.payload.specs.declared.Read.{Read}
-use Rattle.payload.specs.declared.Read.TheVariants as read
+use Rattle.payload.specs.Answers.{Read}
+use Rattle.refusal.specs.Answer as read
 
 ---- the tables of a script
 
@@ -37,6 +39,11 @@ line_name (some x) = x.name
 unfoldable pub line_starts : Option (LineIndex Part) → List ℕ
 line_starts none = []
 line_starts (some x) = x.starts
+
+-- where its name stands
+abbrev pub line_extent : Option (LineIndex Part) → std.Option Extent
+line_extent none = std.None
+line_extent (some x) = std.Some (record { offset = x.name.offset; length = length x.name.bytes })
 
 -- a script whose parts stand in a store
 unfoldable pub tables_of : List ℕ → Script Part → Tables
@@ -75,7 +82,7 @@ capacities_of rows spans starts pool = record {
 unfoldable pub reading : Capacities → List ℕ → List ℕ → Result Payload
 reading c names p = when ltb size_limit (length p) then refused 16 0 else read_payload c (is_listed names) (start p)
 
--- bytes consumed, used rows, spans, starts and strings, the line flag and the name's offset and length: 0 without a line index
+-- bytes consumed, used rows, spans, starts and strings, and where the line index's name stands, if there is one
 abbrev pub counts_of : Payload → State → Counts
 counts_of u s = record {
   consumed = s.place;
@@ -83,14 +90,12 @@ counts_of u s = record {
   spans = s.spans;
   starts = length (line_starts u.script.line);
   strings = length u.pool;
-  flag = line_flag u.script.line;
-  name_o = (line_name u.script.line).offset;
-  name_n = length (line_name u.script.line).bytes;
+  name = line_extent u.script.line;
 }
 
 unfoldable pub read_answer : Result Payload → Read
-read_answer (ok u s) = read.Accepted (counts_of u s)
-read_answer (refused n p) = read.Refused n p
+read_answer (ok u s) = read.accepted (counts_of u s)
+read_answer (refused n p) = read.refused n p
 
 unfoldable pub used_rows : Result Payload → List ℕ
 used_rows (ok u s) = row_table (single u.script.outer)

@@ -13,8 +13,8 @@ use Rattle.payload.specs.Tables.{parts_words, size_limit}
 use Rattle.payload.specs.Trees.{Item, Script, Trees, code, forget_script, native_name, nil, node, number, record_name, single, size, string}
 use Rattle.payload.specs.Writing.{gathered, pool_of, writing}
 use Rattle.payload.specs.declared.Program.{Program}
-use Rattle.payload.specs.declared.Written.{Written}
-use Rattle.payload.specs.declared.Written.TheVariants as write
+use Rattle.payload.specs.Answers.{Written}
+use Rattle.refusal.specs.Answer as write
 
 -- the program that lent tables hold: their used words
 unfoldable pub held_tables : List ℕ → Program → List ℕ → List ℕ → List ℕ → Tables
@@ -92,8 +92,8 @@ write_tables c room g T =
     else not_written 17 g.rows
 
 unfoldable pub write_answer : Writing → Written
-write_answer (written out pool) = write.Accepted (length out)
-write_answer (not_written n p) = write.Refused n p
+write_answer (written out pool) = write.accepted (length out)
+write_answer (not_written n p) = write.refused n p
 
 -- document 01's number and values: 0 and the writing's length, or number and place
 unfoldable pub writing_fields : Writing → List ℕ

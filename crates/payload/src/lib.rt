@@ -1,10 +1,18 @@
 // The records that reader, writer and house check share. The definition of the payload stands in specs/.
-#![tactic(auto)]
+#![tactic(auto, unfolding(crate::specs::Tables::capacities_of))]
 
-ghost use Rattle.std.specs.Prelude.{◌≡◌, min};
+ghost use Rattle.std.specs.Prelude.{◌≡◌};
+ghost use Rattle.payload.specs.Answers.{program_of};
 ghost use Rattle.payload.specs.Rows.{row_width};
 ghost use Rattle.payload.specs.Shapes.{depth_limit};
 ghost use Rattle.payload.specs.Tables.{capacities_of, limits, size_limit};
+
+// Where a part of a store stands: its offset and its length.
+#[derive(Clone, Copy)]
+pub struct Extent {
+    pub offset: usize,
+    pub length: usize,
+}
 
 // How many rows, spans, strings and starts there is room for.
 #[derive(Clone, Copy)]
@@ -15,7 +23,7 @@ pub struct Capacities {
     pub starts: usize,
 }
 
-// What a read or a check that is accepted answers: bytes consumed, used rows, spans, starts and strings, the line flag and the name's offset and length.
+// What a read or a check that is accepted answers: bytes consumed, used rows, spans, starts and strings, and where the line index's name stands, if there is one.
 #[derive(Clone, Copy)]
 pub struct Counts {
     pub consumed: usize,
@@ -23,23 +31,7 @@ pub struct Counts {
     pub spans: usize,
     pub starts: usize,
     pub strings: usize,
-    pub flag: u64,
-    pub name_o: usize,
-    pub name_n: usize,
-}
-
-// A read's answer: accepted, or a refusal's number and place.
-#[derive(Clone, Copy)]
-pub enum Read {
-    Accepted(Counts),
-    Refused(u64, usize),
-}
-
-// A write's answer: accepted with the writing's length, or a refusal's number and place.
-#[derive(Clone, Copy)]
-pub enum Written {
-    Accepted(usize),
-    Refused(u64, usize),
+    pub name: Option<Extent>,
 }
 
 // A program held in lent tables: how many rows, spans and starts are used, the line flag, and the line index's name in the store.
@@ -48,6 +40,19 @@ pub struct Program {
     pub rows: usize,
     pub spans: usize,
     pub starts: usize,
+    pub flag: u64,
+    pub name_o: usize,
+    pub name_n: usize,
+}
+
+// A program in tables that are lent to their last used words: the store in which its parts stand, its rows, spans and starts, the line flag, and the line index's
+// name in the store.
+#[derive(Clone, Copy)]
+pub struct Tables<'a> {
+    pub store: &'a [u8],
+    pub rows: &'a [u64],
+    pub spans: &'a [u64],
+    pub starts: &'a [u32],
     pub flag: u64,
     pub name_o: usize,
     pub name_n: usize,
@@ -90,35 +95,49 @@ impl Program {
     }
 }
 
-fn smaller(a: usize, b: usize) -> usize
-    ensures { result ≡ min a b }
-{
-    if a < b { a } else { b }
-}
-
 // The capacity of a lent table of so many words: the whole entries, or the limit if fewer.
 pub fn row_capacity(words: usize) -> usize
     ensures { result ≡ (capacities_of words 0 0 0).rows }
 {
-    smaller(words / Program::ROW_WIDTH, Program::ROWS)
+    (words / Program::ROW_WIDTH).min(Program::ROWS)
 }
 
 pub fn span_capacity(words: usize) -> usize
     ensures { result ≡ (capacities_of 0 words 0 0).spans }
 {
-    smaller(words / 2, Program::SPANS)
+    (words / 2).min(Program::SPANS)
 }
 
 pub fn start_capacity(words: usize) -> usize
     ensures { result ≡ (capacities_of 0 0 words 0).starts }
 {
-    smaller(words, Program::STARTS)
+    words.min(Program::STARTS)
 }
 
 pub fn string_capacity(words: usize) -> usize
     ensures { result ≡ (capacities_of 0 0 0 words).strings }
 {
-    smaller(words / 2, Program::STRINGS)
+    (words / 2).min(Program::STRINGS)
+}
+
+// The program that a read left in the tables.
+impl From<Counts> for Program {
+    ghost from_gives = { λ counts program. program ≡ program_of counts };
+
+    fn from(counts: Counts) -> Program {
+        let name = counts.name.unwrap_or(Extent {
+            offset: 0,
+            length: 0,
+        });
+        Program {
+            rows: counts.rows,
+            spans: counts.spans,
+            starts: counts.starts,
+            flag: counts.name.is_some() as u64,
+            name_o: name.offset,
+            name_n: name.length,
+        }
+    }
 }
 
 impl Capacities {

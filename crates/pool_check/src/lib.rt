@@ -1,103 +1,69 @@
 // Tests of a pool that was read: whether its strings are first used in its order, and whether they differ.
 #![tactic(auto)]
 
-ghost use Rattle.std.specs.Prelude.{◌≡◌, ◌++◌, ◌+◌, ◌/◌, ◌≤◌, length, get_or, drop};
+ghost use Rattle.std.specs.Prelude.{◌≡◌, ◌++◌, ◌+◌, ◌/◌, ◌≤◌, length, drop};
 ghost use Rattle.payload.specs.Rows.{row_width};
 ghost use Rattle.pool_index.specs.Strings.{pool_strings, distinct};
-ghost use Rattle.gather.specs.Gather.{item_parts, row_parts, rows_parts, name_parts};
-ghost use Rattle.pool_check.specs.Order.{MetOne, Met};
+ghost use Rattle.gather.specs.Gather.{row_parts, rows_parts, name_parts};
+ghost use Rattle.gather.specs.Places.{parts_of};
+ghost use Rattle.pool_check.specs.Order.{Meets};
 ghost use Rattle.pool_check.specs.Distinct.{PartsIn, LinkedFirst};
 
-use payload::Program;
+use gather::Place;
+use payload::{Program, Tables};
+use std::cmp::Ordering;
 
-// The tag of a record row.
-const RECORD: u64 = 16;
+// ---- the order of first use: how many entries are met, or none where one comes too early
 
-// The form of an item that is a string.
-const STRING: u64 = 6;
-
-// ---- the order of first use
-
-// How many entries are met, after one more string: it is the next one, or one that was met, or a later one, which ends the count past all entries. Offsets rise in a
-// pool that was read, and a string that was read stands at an entry's offset, so that the offset alone tells.
-fn meet_string(pool: &[u64], met: usize, o: usize) -> usize
-    requires { met ≤ length pool.now / 2 + 1 }
-    ensures { MetOne pool.now met o result }
+// After the string at a place, where there is one: it is the next entry, or one that was met, or a later one. Offsets rise in a pool that was read, and a string that was
+// read stands at an entry's offset, so that the offset alone tells.
+fn meet_string(at: Option<Place>, store: &[u8], pool: &[u64], met: usize) -> Option<usize>
+    requires { met ≤ length pool.now / 2 }
+    ensures { Meets pool.now met (parts_of store.now at) result }
 {
-    let count = pool.len() / 2;
-    if met < count {
-        let next = pool[2 * met];
-        let offset = o as u64;
-        if offset == next {
-            return met + 1;
-        }
-        if next < offset {
-            return count + 1;
-        }
+    let Some(at) = at else {
+        return Some(met);
+    };
+    if met == pool.len() / 2 {
+        return Some(met);
     }
-    met
+    let offset = pool_index::cut(at.offset, store.len()) as u64;
+    match offset.cmp(&pool[2 * met]) {
+        Ordering::Less => Some(met),
+        Ordering::Equal => Some(met + 1),
+        Ordering::Greater => None,
+    }
 }
 
-// The item whose words begin at a place, by its form.
-fn meet_item(form: u64, store: &[u8], rows: &[u64], at: usize, pool: &[u64], met: usize) -> usize
-    requires { (met ≤ length pool.now / 2 + 1) × (at + 2 ≤ length rows.now) }
-    ensures { Met pool.now met (item_parts store.now form (get_or rows.now at 0) (get_or rows.now (at + 1) 0)) result }
+// After the row whose words begin at a place.
+fn meet_row(store: &[u8], rows: &[u64], at: usize, pool: &[u64], met: usize) -> Option<usize>
+    requires { (met ≤ length pool.now / 2) × (at + row_width ≤ length rows.now) }
+    ensures { Meets pool.now met (row_parts store.now (drop at rows.now)) result }
 {
-    if form == STRING {
-        return meet_string(pool, met, pool_index::cut(rows[at], store.len()));
-    }
-    met
+    let places = gather::row_places(rows, at);
+    let first = meet_string(places.first, store, pool, met)?;
+    meet_string(places.second, store, pool, first)
 }
 
-// The row whose words begin at a place. A record's name is not gathered.
-fn meet_row(store: &[u8], rows: &[u64], at: usize, pool: &[u64], met: usize) -> usize
-    requires { (met ≤ length pool.now / 2 + 1) × (at + row_width ≤ length rows.now) }
-    ensures { Met pool.now met (row_parts store.now (drop at rows.now)) result }
+// After all rows.
+fn meet_rows(store: &[u8], rows: &[u64], pool: &[u64]) -> Option<usize>
+    ensures { Meets pool.now 0 (rows_parts store.now (length rows.now / row_width) rows.now) result }
 {
-    let tag = rows[at];
-    if tag == RECORD {
-        return met;
-    }
-    let first = meet_item(row_layout::first_form(tag), store, rows, at + 1, pool, met);
-    meet_item(
-        row_layout::second_form(tag),
-        store,
-        rows,
-        at + row_layout::second_word(tag) as usize,
-        pool,
-        first,
-    )
-}
-
-fn meet_rows(store: &[u8], rows: &[u64], pool: &[u64]) -> usize
-    ensures { Met pool.now 0 (rows_parts store.now (length rows.now / row_width) rows.now) result }
-{
-    let used = rows.len() / Program::ROW_WIDTH;
     let mut met: usize = 0;
-    let mut i: usize = 0;
-    while i < used {
-        met = meet_row(store, rows, Program::ROW_WIDTH * i, pool, met);
-        i += 1;
+    for i in 0..rows.len() / Program::ROW_WIDTH {
+        met = meet_row(store, rows, Program::ROW_WIDTH * i, pool, met)?;
     }
-    met
+    Some(met)
 }
 
-// How many entries of the pool the gathered strings of a program meet in the pool's order; more than there are where one comes too early.
-pub fn strings_met(
-    store: &[u8],
-    rows: &[u64],
-    flag: u64,
-    name_o: usize,
-    name_n: usize,
-    pool: &[u64],
-) -> usize
-    ensures { Met pool.now 0 (rows_parts store.now (length rows.now / row_width) rows.now ++ name_parts store.now flag name_o name_n) result }
+// How many entries of the pool the gathered strings of a program meet in the pool's order; none where one comes too early.
+pub fn strings_met(tables: &Tables<'_>, pool: &[u64]) -> Option<usize>
+    ensures { Meets pool.now 0
+        (rows_parts tables.now.store.now (length tables.now.rows.now / row_width) tables.now.rows.now
+        ++ name_parts tables.now.store.now tables.now.flag tables.now.name_o tables.now.name_n) result }
 {
-    let met = meet_rows(store, rows, pool);
-    if flag == 0 {
-        return met;
-    }
-    meet_string(pool, met, pool_index::cut(name_o as u64, store.len()))
+    let met = meet_rows(tables.store, tables.rows, pool)?;
+    meet_string(gather::name_place(tables), tables.store, pool, met)
 }
 
 // ---- strings that differ
@@ -108,16 +74,16 @@ fn link_distinct(store: &[u8], pool: &mut [u64]) -> usize
     ensures { LinkedFirst store.now pool.old pool.new result }
 {
     let count = pool.len() / 2;
-    let mut k: usize = 0;
-    while k < count {
-        let o = pool[2 * k];
-        let n = pool[2 * k + 1];
-        if !gather::intern_next(k, pool, store, o, n) {
+    for k in 0..count {
+        let at = Place {
+            offset: pool[2 * k],
+            size: pool[2 * k + 1],
+        };
+        if !gather::intern_next(k, pool, store, at) {
             return k;
         }
-        k += 1;
     }
-    k
+    count
 }
 
 // Whether no string of the pool stands twice. Each is looked for among those before it by links in the pool table, which are taken away again.

@@ -1,62 +1,77 @@
 -- What reading code answers, from what each of its items is read as.
-use mathlib.Core.List.{List}
-use mathlib.Core.Path.{◌≡◌, ◌∙◌}
-use Prim.Native.Nat.{ℕ, ◌+◌, ◌≤◌, ◌<◌}
-use lib.IntN.{pos}
-use lib.ListN.{length}
-use borrow.Author.Tests.{le-leb, lt-leb, eq-eqb}
+use Rattle.std.specs.Prelude.{List, ◌≡◌, ℕ, ◌+◌, ◌≤◌, ◌<◌, pos, Ok, Err}
+use Rattle.std.proofs.Common.{◌∙◌, le-leb}
+use Rattle.std.proofs.lemmas.Bool.{lt-leb}
+use borrow.Author.Tests.{eq-eqb}
+use Rattle.refusal.specs.Number.{number}
+use Rattle.refusal.specs.declared.Reason.TheVariants.{SpansFull}
+use Rattle.refusal.specs.declared.Refusal.{Refusal}
 use Rattle.payload.specs.Numbers.{varint}
-use Rattle.payload.specs.Reader.{refused, ◌>>=◌, ◌>>◌, and_then, must, new_spans}
+use Rattle.payload.specs.Reader.{Part, ◌>>=◌, ◌>>◌, and_then, body, must, new_spans}
 use Rattle.payload.specs.Spans.{Code, expand, total, read_runs, read_code}
-use Rattle.read_items.specs.Reads.{Answer, read, stopped, Reads, state_at, result_of}
-use Rattle.read_items.specs.Context.{part_of}
-use Rattle.read_items.specs.Laws.Reads.{reads_pure, reads_then, reads_stop, reads_here, reads_must, reads_body, reads_body_end}
-use Rattle.read_code.specs.CodeRead.{Accepted}
-use Rattle.read_code.specs.Runs.{counted, Stored}
+use Rattle.cursor.specs.Reads.{Answer, read, stopped, state_at, result_of}
+use Rattle.cursor.specs.Advances.{Advances, Taken}
+use Rattle.cursor.specs.Laws.Reads.{reads_pure, reads_then, reads_here, reads_must}
+use Rattle.cursor.specs.Laws.Advances.{then_reads, stop_reads}
+use Rattle.cursor.specs.declared.Cursor.{Cursor}
+use Rattle.read_code.specs.CodeRead.{CodeFilled}
+use Rattle.read_code.specs.Runs.{counted, RunsRead}
 use Rattle.read_code.specs.Laws.Spans.{length_expand}
+use Rattle.read_code.proofs.Runs.{on_payload}
 
-module _ {p : List ℕ} {at : ℕ} (most used : ℕ) where
-  pub no_length : {m q : ℕ} → Reads p at varint (stopped m q) → (rows : ℕ) → read_code most (state_at p at rows used) ≡ refused m q
+module _ {c c₁ : Cursor} (used most : ℕ) where
+  pub no_length : {table table' : List ℕ} {e : Refusal} → Advances c c₁ varint (stopped (number e.reason) e.place) → CodeFilled c c₁ table table' used most (Err e)
   unfolding read_code ◌>>=◌ and_then
-  no_length g rows = rw (g.is rows used)
+  no_length g = record { payload = g.payload; outcome = λ rows. rw (g.reads.is rows used) }
 
-  module _ {n o : ℕ} (g : Reads p at varint (read n o)) where
-    pub no_body : length p < o + n → (rows : ℕ) → read_code most (state_at p at rows used) ≡ refused 1 o
-    unfolding read_code ◌>>=◌ and_then
-    no_body h rows = rw (g.is rows used, (reads_body_end p o n h g.inside).is rows used)
+module _ {c c₁ c₂ : Cursor} (used most : ℕ) {n : ℕ} (g : Advances c c₁ varint (read n c₁.at)) where
+  pub no_body : {table table' : List ℕ} {e : Refusal} → Advances c₁ c₂ (body n) (stopped (number e.reason) e.place) → CodeFilled c c₂ table table' used most (Err e)
+  unfolding read_code ◌>>=◌ and_then
+  no_body b = record { payload = b.payload ∙ g.payload; outcome = λ rows. rw (g.reads.is rows used, (on_payload g.payload b).is rows used) }
 
-    module _ (h : o + n ≤ length p) where
-      pub no_room : most < used + n → (rows : ℕ) → read_code most (state_at p at rows used) ≡ refused 23 (o + n)
+  module _ {x : Part} (b : Advances c₁ c₂ (body n) (read x c₂.at)) where
+    pub no_room : {table table' : List ℕ} {e : Refusal} → most < used + n → e ≡ record { reason = SpansFull; place = c₂.at } → CodeFilled c c₂ table table' used most (Err e)
+    unfolding read_code ◌>>=◌ ◌>>◌ and_then must new_spans
+    no_room k w = rw w (record {
+      payload = b.payload ∙ g.payload;
+      outcome = λ rows. rw (g.reads.is rows used, (on_payload g.payload b).is rows used, lt-leb (used + n) most k);
+    })
+
+    module _ (k : used + n ≤ most) {c₃ : Cursor} where
+      -- the rest adds no spans of its own
+      rest : {y : Answer Code} → Advances c₂ c₃ (varint >>= λ m. read_runs m (pos 0) (pos 0) >>= counted n x) y → (rows : ℕ)
+          → read_code most (state_at c.payload.now c.at rows used) ≡ result_of c.payload.now rows (used + n) y
       unfolding read_code ◌>>=◌ ◌>>◌ and_then must new_spans
-      no_room k rows = rw (g.is rows used, (reads_body p o n h).is rows used, lt-leb (used + n) most k)
+      rest r rows =
+          rw (g.reads.is rows used, (on_payload g.payload b).is rows used, le-leb (used + n) most k)
+          ((on_payload (b.payload ∙ g.payload) r).is rows (used + n))
 
-      module _ (k : used + n ≤ most) where
-        -- the rest adds no spans of its own
-        rest :
-            {x : Answer Code} → Reads p (o + n) (varint >>= λ c. read_runs c (pos 0) (pos 0) >>= counted n (part_of p o n)) x → (rows : ℕ) →
-            read_code most (state_at p at rows used) ≡ result_of p rows (used + n) x
-        unfolding read_code ◌>>=◌ ◌>>◌ and_then must new_spans
-        rest c rows = rw (g.is rows used, (reads_body p o n h).is rows used, le-leb (used + n) most k) (c.is rows (used + n))
+      pub no_count : {table table' : List ℕ} {e : Refusal} → Advances c₂ c₃ varint (stopped (number e.reason) e.place) → CodeFilled c c₃ table table' used most (Err e)
+      no_count r = record { payload = r.payload ∙ b.payload ∙ g.payload; outcome = rest (stop_reads _ r) }
 
-        pub no_count : {m q : ℕ} → Reads p (o + n) varint (stopped m q) → (rows : ℕ) → read_code most (state_at p at rows used) ≡ refused m q
-        no_count c = rest (reads_stop _ c)
+  -- the runs of the code that a cursor took
+  module _ {bytes : List ℕ} (b : Advances c₁ c₂ (body n) (read (record { offset = c₁.at; bytes = bytes }) c₂.at)) (t : Taken c₁ n bytes c₂.at) (k : used + n ≤ most) {c₃ : Cursor} {m : ℕ}
+      (h : Advances c₂ c₃ varint (read m c₃.at)) {c₄ : Cursor} {table table' : List ℕ} where
+    pub no_runs : {e : Refusal} → RunsRead c₃ c₄ table table' used n m (Err e) → CodeFilled c c₄ table table' used most (Err e)
+    no_runs r = record {
+      payload = r.payload ∙ h.payload ∙ b.payload ∙ g.payload;
+      outcome = rest b k (then_reads _ {c'' = c₄} h (record { payload = r.payload; reads = r.outcome _ }));
+    }
 
-        module _ {count first : ℕ} (c : Reads p (o + n) varint (read count first)) where
-          pub no_runs :
-              {m q : ℕ} → Reads p first (read_runs count (pos 0) (pos 0) >>= counted n (part_of p o n)) (stopped m q) → (rows : ℕ) →
-              read_code most (state_at p at rows used) ≡ refused m q
-          no_runs r = rest (reads_then _ c r)
-
-          pub accepted : {table table' : List ℕ} {next : ℕ} → Stored p table table' used n count first next → Accepted p table table' used most at o n next
-          accepted r =
-              record {
-                spans = expand r.runs;
-                is = rest
-                    (reads_then _ c
-                    (reads_then _ r.reads (reads_here _ (reads_must _ _ (eq-eqb (total r.runs) n r.each) (reads_pure _ r.reads.inside)))));
-                each = length_expand r.runs ∙ r.each;
-                stored = r.stored;
-                fits = k;
-                inside = r.reads.inside;
-                code_inside = h;
-              }
+    pub accepted : RunsRead c₃ c₄ table table' used n m (Ok tt) → CodeFilled c c₄ table table' used most (Ok (record { offset = c₁.at; length = n }))
+    accepted r =
+        let o = r.outcome in
+        let code = reads_then _ o.reads (reads_here _ (reads_must _ _ (eq-eqb (total o.runs) n o.each) (reads_pure _ o.reads.inside))) in
+        let p = r.payload ∙ h.payload ∙ b.payload ∙ g.payload in
+        record {
+          payload = p;
+          outcome = record {
+            spans = expand o.runs;
+            is = rw (t.are, g.payload) at (rest b k (then_reads _ {c'' = c₄} h (record { payload = r.payload; reads = code })));
+            each = length_expand o.runs ∙ o.each;
+            stored = o.stored;
+            fits = k;
+            inside = rw p at c₄.inside;
+            code_inside = rw g.payload at t.inside;
+          };
+        }

@@ -1,138 +1,130 @@
 -- Runs read one after another: whatever the rest of the reading answers from here, with the runs so far in front, all of it answers from the start.
-use mathlib.Core.List.{List, [], ◌∷◌, ◌++◌}
-use mathlib.Core.Path.{◌≡◌, refl, sym, ◌∙◌}
-use Prim.Native.Nat.{ℕ, suc, ◌+◌, ◌*◌, ◌-◌, ◌≤◌, ◌<◌}
-use native.Mathlib.Omega.{arith}
-use lib.IntN.{ℤ, pos}
-use lib.ListN.{length, replicate}
+use Rattle.std.specs.Prelude.{List, [], ◌∷◌, ◌++◌, ◌≡◌, refl, ℕ, suc, ◌+◌, ◌*◌, ◌-◌, ◌≤◌, ◌<◌, pos, replicate, Ok, Err}
+use Rattle.std.proofs.Common.{arith, sym, subst, ◌∙◌}
 use borrow.Author.Tests.{ne_eqb}
+use Rattle.std.specs.Borrow.{Bor}
 use Rattle.slices.specs.Put.{put}
 use Rattle.slices.specs.Laws.Put.{put_none}
-use Rattle.signed.specs.Signed.{word_of}
-use Rattle.payload.specs.Numbers.{varint}
-use Rattle.payload.specs.Reader.{Part, Reader, ◌>>=◌}
-use Rattle.payload.specs.Spans.{Run, expand, total, read_position, read_runs}
+use Rattle.refusal.specs.Number.{number}
+use Rattle.refusal.specs.declared.Reason.TheVariants.{WrongRunCounts}
+use Rattle.refusal.specs.declared.Refusal.{Refusal}
+use Rattle.payload.specs.Reader.{Reader}
+use Rattle.payload.specs.Spans.{expand, total, read_position, read_runs}
+use Rattle.payload.specs.Spans as defined
 use Rattle.payload.specs.Tables.{span_words}
-use Rattle.read_items.specs.Reads.{Answer, read, stopped, Reads}
-use Rattle.read_items.specs.Laws.Sofar.{after, Sofar, in_front, sofar_none, sofar_more, sofar_stop, sofar_all}
-use Rattle.read_items.specs.Laws.Reads.{reads_pure, reads_then, reads_stop, reads_here, reads_must_not}
-use Rattle.read_code.specs.Runs.{span_of, run_of, RunRead, counted, Stored, refusal_of, Refuses}
+use Rattle.cursor.specs.Reads.{Answer, read, stopped, Reads}
+use Rattle.cursor.specs.Advances.{Advances}
+use Rattle.cursor.specs.Laws.Sofar.{after, Sofar, sofar_none, sofar_more, sofar_stop, sofar_all}
+use Rattle.cursor.specs.Laws.Reads.{reads_pure, reads_then, reads_stop, reads_here, reads_must_not}
+use Rattle.cursor.specs.declared.Cursor.{Cursor}
+use Rattle.read_code.specs.Runs.{run_after, run_of, RunsPassed, RunsRead}
+use Rattle.read_code.specs.Laws.Runs.{run_first, run_first_stop}
 use Rattle.read_code.specs.Laws.Spans.{total_append}
-use Rattle.read_code.specs.declared.Refusal.{Refusal}
-use Rattle.read_code.specs.declared.RunAt.{RunAt}
-use Rattle.read_code.specs.declared.RunAt.TheVariants as run_at
-use Rattle.read_code.proofs.SpanTable.{run_more}
+use Rattle.read_code.specs.declared.Run.{Run}
+use Rattle.read_code.proofs.SpanTable.{spans_of_run}
 
----- one run
+-- what is read where a cursor is, of a payload that is the cursor's
+pub on_payload : {A : Type 0} {p : Bor (List ℕ)} {c c' : Cursor} {r : Reader A} {x : Answer A} → c.payload ≡ p → Advances c c' r x → Reads p.now c.at r x
+on_payload {c = c} {r = r} {x = x} e g = subst (λ b. Reads b.now c.at r x) e g.reads
 
-module _ {p : List ℕ} {at : ℕ} {s e : ℤ} where
-  module _ {s' : ℤ} {mid : ℕ} (g : Reads p at (read_position s) (read s' mid)) where
-    module _ {e' : ℤ} {last : ℕ} (h : Reads p mid (read_position e) (read e' last)) where
-      pub run_read : {count next : ℕ} {a b : ℤ} → Reads p last varint (read count next) → a ≡ s' → b ≡ e' → RunRead p s e at (run_at.Run a b count next)
-      unfolding read_runs
-      run_read k u v = rw (u, v) (record { outcome = (k.inside, λ n x y. reads_then _ g (reads_then _ h (reads_then _ k (in_front _ x y)))) })
+---- the first k of `count` runs
 
-      pub count_refused : {n q : ℕ} → Reads p last varint (stopped n q) → RunRead p s e at (run_at.Refused n q)
-      unfolding read_runs
-      count_refused k = record { outcome = λ n. reads_then _ g (reads_then _ h (reads_stop _ k)) }
+pub record Passed (c₀ c : Cursor) (count : ℕ) (before : Run) (k : ℕ) (run : Run) (runs : List defined.Run) : Type 0 where
+  pub payload : c.payload ≡ c₀.payload
+  pub sofar : Sofar c₀.payload.now c₀.at (read_runs count before.start before.end) runs c.at (read_runs (count - k) run.start run.end)
 
-    pub end_refused : {n q : ℕ} → Reads p mid (read_position e) (stopped n q) → RunRead p s e at (run_at.Refused n q)
-    unfolding read_runs
-    end_refused h = record { outcome = λ n. reads_then _ g (reads_stop _ h) }
+pub passed_none : (c : Cursor) (count : ℕ) (before : Run) → Passed c c count before 0 before []
+passed_none c count before = let all : count - 0 ≡ count = omega arith in record { payload = refl; sofar = rw all (sofar_none c.inside) }
 
-  pub start_refused : {n q : ℕ} → Reads p at (read_position s) (stopped n q) → RunRead p s e at (run_at.Refused n q)
+one_less : {k count : ℕ} → k < count → suc (count - (k + 1)) ≡ count - k
+one_less h = omega arith
+
+module _ {c₀ c : Cursor} {count : ℕ} {before : Run} {k : ℕ} {run : Run} {runs : List defined.Run} (f : Passed c₀ c count before k run runs) where
+  module _ {c' : Cursor} where
+    pub passed_rest : (x : Answer (List defined.Run)) → Advances c c' (read_runs (count - k) run.start run.end) x → Advances c₀ c' (read_runs count before.start before.end) (after runs x)
+    passed_rest x g = record { payload = g.payload ∙ f.payload; reads = f.sofar.all x (on_payload f.payload g) }
+
+    module _ (h : k < count) where
+      pub passed_more : {r : Run} → Advances c c' (run_after run) (read r c'.at) → Passed c₀ c' count before (k + 1) r (runs ++ (run_of r ∷ []))
+      passed_more {r} g = record {
+        payload = g.payload ∙ f.payload;
+        sofar = sofar_more f.sofar (on_payload f.payload g).inside (λ x y. rw (← one_less h) (run_first (count - (k + 1)) run (on_payload f.payload g) x y));
+      }
+
+      pub passed_stop : {m q : ℕ} → Advances c c' (run_after run) (stopped m q) → Advances c₀ c' (read_runs count before.start before.end) (stopped m q)
+      passed_stop g = record { payload = g.payload ∙ f.payload; reads = sofar_stop f.sofar (rw (← one_less h) (run_first_stop (count - (k + 1)) run (on_payload f.payload g))) }
+
+  pub passed_all : count ≤ k → Advances c₀ c (read_runs count before.start before.end) (read runs c.at)
   unfolding read_runs
-  start_refused g = record { outcome = λ n. reads_stop _ g }
-
-pub run_inside : {p : List ℕ} {at : ℕ} {s e s' e' : ℤ} {n next : ℕ} {r : RunAt} → RunRead p s e at r → r ≡ run_at.Run s' e' n next → next ≤ length p
-run_inside g w = (rw w at g).outcome.0
-
----- the runs so far
-
-module _ {p : List ℕ} {at : ℕ} {whole : Reader (List Run)} {runs : List Run} {left : ℕ} {s e : ℤ} {next : ℕ}
-    (f : Sofar p at whole runs next (read_runs left s e)) where
-  module _ {r : RunAt} (g : RunRead p s e next r) (h : 0 < left) where
-    one : suc (left - 1) ≡ left
-    one = omega arith
-
-    pub runs_more :
-        {s' e' a b : ℤ} {n next' : ℕ} → r ≡ run_at.Run s' e' n next' → a ≡ s' → b ≡ e' →
-        Sofar p at whole (runs ++ (run_of s' e' n ∷ [])) next' (read_runs (left - 1) a b)
-    runs_more w u v = let o = (rw w at g).outcome in rw (u, v) (sofar_more f o.0 (λ x y. rw (← one) (o.1 (left - 1) x y)))
-
-    pub runs_stop : {n q : ℕ} → r ≡ run_at.Refused n q → Reads p at whole (stopped n q)
-    runs_stop w = sofar_stop f (rw (← one) ((rw w at g).outcome (left - 1)))
-
-pub runs_all : {p : List ℕ} {at : ℕ} {whole : Reader (List Run)} {runs : List Run} {next : ℕ} (left : ℕ) (s e : ℤ) →
-    Sofar p at whole runs next (read_runs left s e) → left ≤ 0 → Reads p at whole (read runs next)
-unfolding read_runs
-runs_all left s e f h = let none : left ≡ 0 = omega arith in sofar_all f (rw none (reads_pure [] f.inside))
+  passed_all h = let none : count - k ≡ 0 = omega arith in record { payload = f.payload; reads = sofar_all f.sofar (rw none (reads_pure [] f.sofar.inside)) }
 
 ---- the runs so far, with their spans in the table
 
-pub record Filling (p table₀ table : List ℕ) (used size count at from left : ℕ) (s e : ℤ) (next : ℕ) : Type 0 where
-  pub runs : List Run
-  pub sofar : Sofar p at (read_runs count (pos 0) (pos 0)) runs next (read_runs left s e)
+abbrev pub first : Run
+first = record { start = pos 0; end = pos 0; count = 0 }
+
+pub record Filling (c₀ c : Cursor) (table₀ table : List ℕ) (used size count from k : ℕ) (run : Run) : Type 0 where
+  pub runs : List defined.Run
+  pub passed : Passed c₀ c count first k run runs
   pub filled : from ≡ used + total runs
   pub fits : from ≤ used + size
-  pub same : length table ≡ length table₀
   pub stored : table ≡ put table₀ (2 * used) (span_words (expand runs))
 
 -- the counts are not one for each byte of code
-module _ {p : List ℕ} {at : ℕ} where
-  miscounted :
-      (count size : ℕ) (x : Part) {rs : List Run} {next : ℕ} → Reads p at (read_runs count (pos 0) (pos 0)) (read rs next) → (total rs ≡ size → ⊥) →
-      Reads p at (read_runs count (pos 0) (pos 0) >>= counted size x) (stopped 7 next)
-  miscounted count size x {rs} g d = reads_then _ g (reads_here _ (reads_must_not _ (ne_eqb (total rs) size d)))
+miscounted : {c₀ c : Cursor} {table table' : List ℕ} {used size count : ℕ} {rs : List defined.Run} {e : Refusal} →
+    e ≡ record { reason = WrongRunCounts; place = c.at } → Advances c₀ c (read_runs count (pos 0) (pos 0)) (read rs c.at) → (total rs ≡ size → ⊥) →
+    RunsRead c₀ c table table' used size count (Err e)
+miscounted {size = size} {rs = rs} w g d = rw w (record { payload = g.payload; outcome = λ x. reads_then _ g.reads (reads_here _ (reads_must_not _ (ne_eqb (total rs) size d))) })
 
-module _ {p table₀ : List ℕ} {used size count at : ℕ} where
-  pub filling_none : at ≤ length p → Filling p table₀ table₀ used size count at used count (pos 0) (pos 0) at
-  unfolding total expand span_words
-  filling_none h = record { runs = []; sofar = sofar_none h; filled = omega arith; fits = omega arith; same = refl; stored = sym (put_none table₀ _) }
+-- one of the runs is refused
+unread : {c₀ c : Cursor} {table table' : List ℕ} {used size count : ℕ} {e : Refusal} → Advances c₀ c (read_runs count (pos 0) (pos 0)) (stopped (number e.reason) e.place) →
+    RunsRead c₀ c table table' used size count (Err e)
+unread g = record { payload = g.payload; outcome = λ x. reads_stop _ g.reads }
 
-  module _ {table : List ℕ} {from left : ℕ} {s e : ℤ} {next : ℕ} (f : Filling p table₀ table used size count at from left s e next) where
-    module _ {r : RunAt} (g : RunRead p s e next r) (h : 0 < left) where
-      module _ {s' e' a b : ℤ} {n next' : ℕ} (w : r ≡ run_at.Run s' e' n next') (u : a ≡ s') (v : b ≡ e') where
-        grown : total (f.runs ++ (run_of s' e' n ∷ [])) ≡ total f.runs + n
-        unfolding total
-        grown = omega (arith, total_append f.runs (run_of s' e' n ∷ []))
+pub filling_none : (c : Cursor) (table : List ℕ) (used size count : ℕ) → Filling c c table table used size count used 0 first
+unfolding total expand span_words
+filling_none c table used size count = record { runs = []; passed = passed_none c count first; filled = omega arith; fits = omega arith; stored = sym (put_none table _) }
 
-        pub filling_more :
-            {table' : List ℕ} {start end : ℕ} → from + n ≤ used + size → length table' ≡ length table → start ≡ word_of a → end ≡ word_of b →
-            table' ≡ put table (2 * from) (span_words (replicate n (span_of start end))) →
-            Filling p table₀ table' used size count at (from + n) (left - 1) a b next'
-        filling_more {table'} k l x y m = record {
-          runs = f.runs ++ (run_of s' e' n ∷ []);
-          sofar = runs_more f.sofar g h w u v;
-          filled = omega (arith, f.filled, grown);
-          fits = k;
-          same = l ∙ f.same;
-          stored = run_stored ∙ run_more table₀ used f.runs (run_of s' e' n) from f.filled;
-        }
-          where
-            run_stored :
-                table' ≡ put (put table₀ (2 * used) (span_words (expand f.runs))) (2 * from) (span_words (replicate n (span_of (word_of s') (word_of e'))))
-            run_stored = rw (x, y, u, v, f.stored) at m
+module _ {c₀ c : Cursor} {table₀ table : List ℕ} {used size count from k : ℕ} {run : Run} (f : Filling c₀ c table₀ table used size count from k run) where
+  module _ (h : k < count) {c' : Cursor} where
+    module _ {r : Run} (g : Advances c c' (run_after run) (read r c'.at)) where
+      grown : total (f.runs ++ (run_of r ∷ [])) ≡ total f.runs + r.count
+      unfolding total
+      grown = omega (arith, total_append f.runs (run_of r ∷ []))
 
+      pub filling_more : {table' : List ℕ} {s : defined.Span} → from + r.count ≤ used + size → s ≡ (run_of r).span → table' ≡ put table (2 * from) (span_words (replicate r.count s)) →
+          Filling c₀ c' table₀ table' used size count (from + r.count) (k + 1) r
+      filling_more {table'} l x m = record {
+        runs = f.runs ++ (run_of r ∷ []);
+        passed = passed_more f.passed h g;
+        filled = omega (arith, grown);
+        fits = l;
+        stored = run_stored ∙ spans_of_run table₀ used f.runs (run_of r) from f.filled;
+      }
+        where
+          run_stored : table' ≡ put (put table₀ (2 * used) (span_words (expand f.runs))) (2 * from) (span_words (replicate r.count (run_of r).span))
+          run_stored = rw (x, f.stored) at m
+
+      module _ {table' : List ℕ} {c'' : Cursor} {e : Refusal} where
         -- the counts pass the code's length
-        pub filling_over : (x : Part) → used + size < from + n → {t : Refusal} → Refuses p (left - 1) a b next' t →
-            Reads p at (read_runs count (pos 0) (pos 0) >>= counted size x) (stopped t.number t.place)
-        filling_over x k {t} o = go o.answer o.is ((runs_more f.sofar g h w u v).all o.answer o.reads)
-          where
-            runs : List Run
-            runs = f.runs ++ (run_of s' e' n ∷ [])
+        pub filling_over : RunsPassed c' c'' (count - (k + 1)) r (Ok tt) → used + size < from + r.count → e ≡ record { reason = WrongRunCounts; place = c''.at }
+            → RunsRead c₀ c'' table₀ table' used size count (Err e)
+        filling_over p l y =
+            miscounted y (passed_rest (passed_more f.passed h g) _ p.reads)
+            (λ d. omega (arith, grown, total_append (f.runs ++ (run_of r ∷ [])) p.runs))
 
-            go : (y : Answer (List Run)) → t ≡ refusal_of y → Reads p at (read_runs count (pos 0) (pos 0)) (after runs y) →
-                Reads p at (read_runs count (pos 0) (pos 0) >>= counted size x) (stopped t.number t.place)
-            go (read rs q) i y = rw i (miscounted count size x y (λ d. omega (arith, d, f.filled, grown, total_append runs rs)))
-            go (stopped m q) i y = rw i (reads_stop _ y)
+        pub filling_over_stop : RunsPassed c' c'' (count - (k + 1)) r (Err e) → RunsRead c₀ c'' table₀ table' used size count (Err e)
+        filling_over_stop p = unread (passed_rest (passed_more f.passed h g) _ p.reads)
 
-      pub filling_stop : {m q : ℕ} (x : Part) → r ≡ run_at.Refused m q → Reads p at (read_runs count (pos 0) (pos 0) >>= counted size x) (stopped m q)
-      filling_stop x w = reads_stop _ (runs_stop f.sofar g h w)
+    pub filling_stop : {table' : List ℕ} {e : Refusal} → Advances c c' (run_after run) (stopped (number e.reason) e.place) → RunsRead c₀ c' table₀ table' used size count (Err e)
+    filling_stop g = unread (passed_stop f.passed h g)
 
-    module _ (h : left ≤ 0) where
-      pub filling_under : (x : Part) → from < used + size → Reads p at (read_runs count (pos 0) (pos 0) >>= counted size x) (stopped 7 next)
-      filling_under x k = miscounted count size x (runs_all left s e f.sofar h) (λ d. omega (arith, d, f.filled))
+  module _ (h : count ≤ k) where
+    pub filling_under : {table' : List ℕ} {e : Refusal} → from < used + size → e ≡ record { reason = WrongRunCounts; place = c.at } → RunsRead c₀ c table₀ table' used size count (Err e)
+    filling_under l y = miscounted y (passed_all f.passed h) (λ d. omega arith)
 
-      pub filling_all : used + size ≤ from → Stored p table₀ table used size count at next
-      filling_all k = record { runs = f.runs; reads = runs_all left s e f.sofar h; each = omega (arith, f.filled, f.fits); stored = f.stored }
+    pub filling_all : used + size ≤ from → RunsRead c₀ c table₀ table used size count (Ok tt)
+    filling_all l = let all = passed_all f.passed h in record {
+      payload = all.payload;
+      outcome = record { runs = f.runs; reads = all.reads; each = omega arith; stored = f.stored };
+    }

@@ -1,13 +1,9 @@
 -- Spans stored in a table one after another, and run after run.
-use mathlib.Core.Bool.{Bool, true, false}
-use mathlib.Core.List.{List, [], ◌∷◌, ◌++◌, append-nil}
-use mathlib.Core.Path.{◌≡◌, refl, sym, ap, ◌∙◌}
-use Prim.Native.Nat.{ℕ, suc, ◌+◌, ◌-◌, ◌*◌, ◌≤◌, min}
-use native.Mathlib.Omega.{arith}
+use Rattle.std.specs.Prelude.{Bool, true, false, List, [], ◌∷◌, ◌++◌, ◌≡◌, refl, ℕ, suc, ◌+◌, ◌-◌, ◌*◌, ◌≤◌, ltb, min, length, replicate}
+use Rattle.std.proofs.Common.{arith, sym, ap, ◌∙◌, append-nil}
+use Rattle.std.proofs.Math.ListN.{set, length-replicate, replicate-append-replicate}
+use Rattle.std.proofs.Math.Seq.{set_comm, set-set}
 use borrow.Author.Tests.{ltb-true, ltb-false}
-use lib.Dec.{ltb}
-use lib.ListN.{length, set, replicate, length-replicate, replicate-append-replicate}
-use lib.Seq.{set_comm, set-set}
 use Rattle.slices.specs.Put.{put}
 use Rattle.slices.specs.Laws.Put.{put_put, put_last, put_cons}
 use Rattle.payload.specs.Spans.{Span, Run, expand, total}
@@ -28,16 +24,12 @@ unfolding span_words
 span_stored xs i s = put_last (set xs i s.start) (i + 1) s.end ∙ put_cons xs i s.start (s.end ∷ [])
 
 -- one span more of a run of equal ones
-span_after_lem : (xs ys : List ℕ) (from k : ℕ) (s : Span) → ys ≡ put xs (2 * from) (span_words (replicate k s)) →
+pub span_after : (xs ys : List ℕ) (from k : ℕ) (s : Span) → ys ≡ put xs (2 * from) (span_words (replicate k s)) →
     put ys (2 * (from + k)) (span_words (s ∷ [])) ≡ put xs (2 * from) (span_words (replicate (k + 1) s))
-span_after_lem xs ys from k s e =
+span_after xs ys from k s e =
     ap (λ (l : List ℕ). put l (2 * (from + k)) (span_words (s ∷ []))) e
     ∙ spans_more xs from (replicate k s) (s ∷ []) (from + k) (omega (arith, length-replicate k s))
     ∙ ap (λ (l : List Span). put xs (2 * from) (span_words l)) (replicate-append-replicate k 1 s)
-
-pub span_more : (xs ys : List ℕ) (from k : ℕ) (s : Span) → ys ≡ put xs (2 * from) (span_words (replicate k s)) →
-    set (set ys (2 * (from + k)) s.start) (2 * (from + k) + 1) s.end ≡ put xs (2 * from) (span_words (replicate (k + 1) s))
-span_more xs ys from k s e = span_stored ys (2 * (from + k)) s ∙ span_after_lem xs ys from k s e
 
 -- a span stored twice
 span_twice : (xs : List ℕ) (i : ℕ) (s : Span) → put (put xs i (span_words (s ∷ []))) i (span_words (s ∷ [])) ≡ put xs i (span_words (s ∷ []))
@@ -51,7 +43,7 @@ span_twice xs i s =
 span_again : (xs ys : List ℕ) (from k : ℕ) (s : Span) → ys ≡ put xs (2 * from) (span_words (replicate (k + 1) s)) →
     put ys (2 * (from + k)) (span_words (s ∷ [])) ≡ put xs (2 * from) (span_words (replicate (k + 1) s))
 span_again xs ys from k s e =
-    let last = span_after_lem xs _ from k s refl in
+    let last = span_after xs _ from k s refl in
     ap (λ (l : List ℕ). put l (2 * (from + k)) (span_words (s ∷ []))) (e ∙ sym last)
     ∙ span_twice (put xs (2 * from) (span_words (replicate k s))) (2 * (from + k)) s
     ∙ last
@@ -68,7 +60,7 @@ span_next xs ys from n k place s some p e = go (ltb k n) refl
         let before : min k n ≡ k = omega arith in
         let next : min (k + 1) n ≡ k + 1 = omega arith in
         let at : place ≡ from + k = omega arith in
-        rw (next, at) (span_after_lem xs ys from k s (rw before at e))
+        rw (next, at) (span_after xs ys from k s (rw before at e))
     go false t =
         let all = ltb-false k n t in
         let before : min k n ≡ n - 1 + 1 = omega arith in
@@ -77,12 +69,12 @@ span_next xs ys from n k place s some p e = go (ltb k n) refl
         rw (next, at) (span_again xs ys from (n - 1) s (rw before at e))
 
 -- one run more
-pub run_more :
+pub spans_of_run :
     (xs : List ℕ) (used : ℕ) (rs : List Run) (r : Run) (from : ℕ) → from ≡ used + total rs →
     put (put xs (2 * used) (span_words (expand rs))) (2 * from) (span_words (replicate r.count r.span))
     ≡ put xs (2 * used) (span_words (expand (rs ++ (r ∷ []))))
 unfolding expand
-run_more xs used rs r from e =
+spans_of_run xs used rs r from e =
     spans_more xs used (expand rs) (replicate r.count r.span) from (omega (arith, length_expand rs))
     ∙ ap (λ (l : List Span). put xs (2 * used) (span_words l))
     (sym (expand_append rs (r ∷ []) ∙ ap (λ (l : List Span). expand rs ++ l) (append-nil (replicate r.count r.span))))

@@ -1,2 +1,3 @@
 pub mod CodeRead
+pub mod Runs
 pub mod Spans

@@ -1,261 +1,213 @@
 // Code and its spans, read from a payload against the definition; the spans go into a lent table.
 #![tactic(auto)]
 
-ghost use Rattle.std.specs.Prelude.{true, [], ◌∷◌, ◌≡◌, ◌+◌, ◌*◌, ◌≤◌, min, length, replicate};
+ghost use Rattle.std.specs.Prelude.{true, [], ◌∷◌, ◌≡◌, ◌+◌, ◌*◌, ◌≤◌, ◌<◌, get_or, length, replicate};
 ghost use Rattle.slices.specs.Put.{put};
 ghost use Rattle.payload.specs.Tables.{span_words};
+ghost use Rattle.payload.specs.Spans.{read_position};
+ghost use Rattle.cursor.specs.Reads.{Reads};
+ghost use Rattle.cursor.specs.Advances.{Advances, answer_of};
 ghost use Rattle.read_code.specs.CodeRead.{CodeFilled, CodeRead};
-ghost use Rattle.read_code.specs.Runs.{ShortRun, RunRead, RunsRead, Refuses, span_of};
+ghost use Rattle.read_code.specs.Runs.{RunsPassed, RunsRead, ShortRun, run_after, run_of, span_of};
 
-use cursor::Body;
-use read_items::{Number, PositionAt, items, positions};
-use signed::Position;
+use cursor::Cursor;
+use payload::Extent;
+use read_items::positions;
+use refusal::{Reason, Refusal};
 
-// Code: its offset, its length and the place after its runs; or a refusal's number and place.
+// A run: its positions, which those of the run after it are counted from, and how many spans it gives.
 #[derive(Clone, Copy)]
-pub enum CodeAt {
-    Code(usize, usize, usize),
-    Refused(u64, usize),
+struct Run {
+    start: i64,
+    end: i64,
+    count: u64,
 }
 
-// A run's start, end and count and the place after it, or a refusal's number and place.
+// A span, as the table has it.
 #[derive(Clone, Copy)]
-enum RunAt {
-    Run(i64, i64, u64, usize),
-    Refused(u64, usize),
+struct Span {
+    start: u64,
+    end: u64,
 }
 
-// The place after the runs of a code, or a refusal's number and place.
-#[derive(Clone, Copy)]
-enum RunsAt {
-    End(usize),
-    Refused(u64, usize),
-}
-
-#[derive(Clone, Copy)]
-struct Refusal {
-    number: u64,
-    place: usize,
-}
-
-// A run after one with this start and end.
-fn read_run_long(bytes: &[u8], start: i64, end: i64, at: usize) -> RunAt
-    ensures { RunRead bytes.now start end at result }
-{
-    match positions::read_position(bytes, start, at) {
-        PositionAt::Position(s, after_start) => match positions::read_position(
-            bytes,
-            end,
-            after_start,
-        ) {
-            PositionAt::Position(e, after_end) => match items::read_uvarint(bytes, after_end) {
-                Number::Read(count, next) => RunAt::Run(s, e, count, next),
-                Number::Refused(n, q) => RunAt::Refused(n, q),
-            },
-            PositionAt::Refused(n, q) => RunAt::Refused(n, q),
-        },
-        PositionAt::Refused(n, q) => RunAt::Refused(n, q),
+impl Run {
+    // The span that it gives, as often as it counts.
+    fn span(self) -> Span
+        ensures { span_of result ≡ (run_of self).span }
+    {
+        Span {
+            start: signed::to_word(self.start),
+            end: signed::to_word(self.end),
+        }
     }
 }
 
-// Whether a run of three bytes stands at `at`: all its numbers have one byte.
-fn is_short_run(bytes: &[u8], at: usize) -> bool
-    requires { at ≤ length bytes.now }
-    ensures { result ≡ true → ShortRun bytes.now at }
+// The run after one.
+fn read_run_long(cursor: &mut Cursor<'_>, before: Run) -> Result<Run, Refusal>
+    ensures { Advances cursor.old cursor.new (run_after before) (answer_of result cursor.new.at) }
 {
+    let start = positions::read_position(cursor, before.start)?;
+    let end = positions::read_position(cursor, before.end)?;
+    let count = cursor.uvarint()?;
+    Ok(Run { start, end, count })
+}
+
+// Whether a run of three bytes stands here: all its numbers have one byte. They are tested at once, by `&`, since a branch for each is slower.
+fn is_short_run(cursor: &Cursor<'_>) -> bool
+    ensures { result ≡ true → ShortRun cursor.now.payload.now cursor.now.at }
+{
+    let at = cursor.at;
+    let bytes = cursor.payload;
     if bytes.len() - at < 3 {
         return false;
     }
     (bytes[at] < 128) & (bytes[at + 1] < 128) & (bytes[at + 2] < 128)
 }
 
-fn read_short_run(bytes: &[u8], start: i64, end: i64, at: usize) -> RunAt
-    requires { ShortRun bytes.now at }
-    ensures { RunRead bytes.now start end at result }
+// The position that a delta of one byte leads to from an old one.
+fn short_position(payload: &[u8], at: usize, old: i64) -> Result<i64, Refusal>
+    requires { (at < length payload.now) × (get_or payload.now at 0 < 128) }
+    ensures { Reads payload.now at (read_position old) (answer_of result (at + 1)) }
 {
-    match signed::add_delta(start, signed::unzigzag(bytes[at] as u64)) {
-        Position::At(s) => match signed::add_delta(end, signed::unzigzag(bytes[at + 1] as u64)) {
-            Position::At(e) => RunAt::Run(s, e, bytes[at + 2] as u64, at + 3),
-            Position::OutOfRange => RunAt::Refused(8, at + 1),
-        },
-        Position::OutOfRange => RunAt::Refused(8, at),
-    }
+    let delta = signed::unzigzag(u64::from(payload[at]));
+    signed::add_delta(old, delta).ok_or(Reason::PositionOutOfRange.at(at))
+}
+
+fn read_short_run(cursor: &mut Cursor<'_>, before: Run) -> Result<Run, Refusal>
+    requires { ShortRun cursor.old.payload.now cursor.old.at }
+    ensures { Advances cursor.old cursor.new (run_after before) (answer_of result cursor.new.at) }
+{
+    let start = short_position(cursor.payload, cursor.at, before.start)?;
+    let end = short_position(cursor.payload, cursor.at + 1, before.end)?;
+    let count = u64::from(cursor.payload[cursor.at + 2]);
+    cursor.at += 3;
+    Ok(Run { start, end, count })
 }
 
 // Most numbers have one byte: the short run is inlined into the loop over the runs, and any other is a call.
-fn read_run(bytes: &[u8], start: i64, end: i64, at: usize) -> RunAt
-    requires { at ≤ length bytes.now }
-    ensures { RunRead bytes.now start end at result }
+fn read_run(cursor: &mut Cursor<'_>, before: Run) -> Result<Run, Refusal>
+    ensures { Advances cursor.old cursor.new (run_after before) (answer_of result cursor.new.at) }
 {
-    if is_short_run(bytes, at) {
-        return read_short_run(bytes, start, end, at);
+    if is_short_run(cursor) {
+        return read_short_run(cursor, before);
     }
-    read_run_long(bytes, start, end, at)
+    read_run_long(cursor, before)
 }
 
 // Stores a span as span number k.
-fn store_span(spans: &mut [u64], k: usize, start: u64, end: u64)
+fn store_span(spans: &mut [u64], k: usize, span: Span)
     requires { 2 * (k + 1) ≤ length spans.old }
-    ensures { spans.new ≡ put spans.old (2 * k) (span_words (span_of start end ∷ [])) }
+    ensures { spans.new ≡ put spans.old (2 * k) (span_words (span_of span ∷ [])) }
 {
-    let i = 2 * k;
-    spans[i] = start;
-    spans[i + 1] = end;
-}
-
-// The smaller of two numbers.
-fn least(a: usize, b: usize) -> usize
-    ensures { result ≡ min a b }
-{
-    if a < b { a } else { b }
+    spans[2 * k] = span.start;
+    spans[2 * k + 1] = span.end;
 }
 
 // Stores a span one to four times. How many spans a run has cannot be foreseen, and a branch on it costs more than the stores: so there are always four,
 // and those past the last span store it again.
-fn fill_up_to_four(spans: &mut [u64], from: usize, n: usize, start: u64, end: u64)
+fn fill_up_to_four(spans: &mut [u64], from: usize, n: usize, span: Span)
     requires { (1 ≤ n) × (n ≤ 4) × (2 * (from + n) ≤ length spans.old) }
-    ensures { spans.new ≡ put spans.old (2 * from) (span_words (replicate n (span_of start end))) }
+    ensures { spans.new ≡ put spans.old (2 * from) (span_words (replicate n (span_of span))) }
 {
     let last = from + n - 1;
-    store_span(spans, from, start, end);
-    store_span(spans, least(from + 1, last), start, end);
-    store_span(spans, least(from + 2, last), start, end);
-    store_span(spans, last, start, end);
+    store_span(spans, from, span);
+    store_span(spans, last.min(from + 1), span);
+    store_span(spans, last.min(from + 2), span);
+    store_span(spans, last, span);
 }
 
 // Stores a span n times, from span number `from` on.
-fn fill(spans: &mut [u64], from: usize, n: usize, start: u64, end: u64)
+fn fill(spans: &mut [u64], from: usize, n: usize, span: Span)
     requires { 2 * (from + n) ≤ length spans.old }
-    ensures { spans.new ≡ put spans.old (2 * from) (span_words (replicate n (span_of start end))) }
+    ensures { spans.new ≡ put spans.old (2 * from) (span_words (replicate n (span_of span))) }
 {
-    if (1 <= n) & (n <= 4) {
-        return fill_up_to_four(spans, from, n, start, end);
+    if matches!(n, 1..=4) {
+        return fill_up_to_four(spans, from, n, span);
     }
-    let mut k = 0;
-    while k < n {
-        let i = 2 * (from + k);
-        spans[i] = start;
-        spans[i + 1] = end;
-        k += 1;
+    for k in 0..n {
+        store_span(spans, from + k, span);
     }
 }
 
-// The runs that are left once their counts have passed the code's length: they are read to the last, and the refusal is 7 unless it is one of theirs.
-fn refusal_after(bytes: &[u8], count: u64, start: i64, end: i64, at: usize) -> Refusal
-    requires { at ≤ length bytes.now }
-    ensures { Refuses bytes.now count start end at result }
+// The runs that are left once their counts have passed the code's length: they are read to the last, so that a refusal of theirs comes first.
+fn pass_runs(cursor: &mut Cursor<'_>, count: u64, before: Run) -> Result<(), Refusal>
+    ensures { RunsPassed cursor.old cursor.new count before result }
 {
-    let mut left = count;
-    let mut s = start;
-    let mut e = end;
-    let mut next = at;
-    while 0 < left {
-        match read_run_long(bytes, s, e, next) {
-            RunAt::Run(new_start, new_end, _, after) => {
-                s = new_start;
-                e = new_end;
-                next = after;
-                left -= 1;
-            }
-            RunAt::Refused(n, q) => return Refusal {
-                number: n,
-                place: q,
-            },
-        }
+    let mut run = before;
+    for _ in 0..count {
+        run = read_run_long(cursor, run)?;
     }
-    Refusal {
-        number: 7,
-        place: next,
-    }
+    Ok(())
 }
 
 // The runs of a code of `size` bytes, whose spans go into the table from span number `used` on.
 fn read_runs(
-    bytes: &[u8],
+    cursor: &mut Cursor<'_>,
     spans: &mut [u64],
     used: usize,
     size: usize,
     count: u64,
-    at: usize,
-) -> RunsAt
-    requires { (at ≤ length bytes.now) × (2 * (used + size) ≤ length spans.old) }
-    ensures { RunsRead bytes.now spans.old spans.new used size count at result }
+) -> Result<(), Refusal>
+    requires { 2 * (used + size) ≤ length spans.old }
+    ensures { RunsRead cursor.old cursor.new spans.old spans.new used size count result }
 {
     let stop = used + size;
     let mut from = used;
-    let mut left = count;
-    let mut start: i64 = 0;
-    let mut end: i64 = 0;
-    let mut next = at;
-    while 0 < left {
-        match read_run(bytes, start, end, next) {
-            RunAt::Run(s, e, n, after) => {
-                start = s;
-                end = e;
-                next = after;
-                left -= 1;
-                if ((stop - from) as u64) < n {
-                    let refusal = refusal_after(bytes, left, start, end, next);
-                    return RunsAt::Refused(refusal.number, refusal.place);
-                }
-                fill(
-                    spans,
-                    from,
-                    n as usize,
-                    signed::to_word(s),
-                    signed::to_word(e),
-                );
-                from += n as usize;
-            }
-            RunAt::Refused(n, q) => return RunsAt::Refused(n, q),
+    let mut run = Run {
+        start: 0,
+        end: 0,
+        count: 0,
+    };
+    for k in 0..count {
+        run = read_run(cursor, run)?;
+        if ((stop - from) as u64) < run.count {
+            pass_runs(cursor, count - (k + 1), run)?;
+            return Err(Reason::WrongRunCounts.at(cursor.at));
         }
+        let n = run.count as usize;
+        fill(spans, from, n, run.span());
+        from += n;
     }
     if from < stop {
-        return RunsAt::Refused(7, next);
+        return Err(Reason::WrongRunCounts.at(cursor.at));
     }
-    RunsAt::End(next)
+    Ok(())
 }
 
-// The code at `at`, its spans into the table, of which `used` of at most `most` spans are used. A refusal leaves in it spans of the runs before.
-fn fill_spans(bytes: &[u8], spans: &mut [u64], used: usize, most: usize, at: usize) -> CodeAt
+// The code that stands here, its spans into the table, of which `used` of at most `most` spans are used. A refusal leaves in it spans of the runs before.
+fn fill_spans(
+    cursor: &mut Cursor<'_>,
+    spans: &mut [u64],
+    used: usize,
+    most: usize,
+) -> Result<Extent, Refusal>
     requires { (used ≤ most) × (2 * most ≤ length spans.old) }
-    ensures { CodeFilled bytes.now spans.old spans.new used most at result }
+    ensures { CodeFilled cursor.old cursor.new spans.old spans.new used most result }
 {
-    match items::read_uvarint(bytes, at) {
-        Number::Read(length, first) => {
-            let size = length as usize;
-            match cursor::read_body(bytes, first, size) {
-                Body::At(offset, body_end) => {
-                    if most - used < size {
-                        return CodeAt::Refused(23, body_end);
-                    }
-                    match items::read_uvarint(bytes, body_end) {
-                        Number::Read(count, runs) => match read_runs(
-                            bytes, spans, used, size, count, runs,
-                        ) {
-                            RunsAt::End(next) => CodeAt::Code(offset, size, next),
-                            RunsAt::Refused(n, q) => CodeAt::Refused(n, q),
-                        },
-                        Number::Refused(n, q) => CodeAt::Refused(n, q),
-                    }
-                }
-                Body::Short(q) => CodeAt::Refused(1, q),
-            }
-        }
-        Number::Refused(n, q) => CodeAt::Refused(n, q),
+    let length = cursor.uvarint()? as usize;
+    let offset = cursor.at;
+    cursor.take(length)?;
+    if most - used < length {
+        return Err(Reason::SpansFull.at(cursor.at));
     }
+    let count = cursor.uvarint()?;
+    read_runs(cursor, spans, used, length, count)?;
+    Ok(Extent { offset, length })
 }
 
-// Reads the code at `at`, and stores its spans in the table, of which `used` of at most `most` spans are used. A refusal leaves zeros in the table.
-pub fn read_code(bytes: &[u8], spans: &mut [u64], used: usize, most: usize, at: usize) -> CodeAt
+// Reads the code that stands here, and stores its spans in the table, of which `used` of at most `most` spans are used. A refusal leaves zeros in the table.
+pub fn read_code(
+    cursor: &mut Cursor<'_>,
+    spans: &mut [u64],
+    used: usize,
+    most: usize,
+) -> Result<Extent, Refusal>
     requires { (used ≤ most) × (2 * most ≤ length spans.old) }
-    ensures { CodeRead bytes.now spans.old spans.new used most at result }
+    ensures { CodeRead cursor.old cursor.new spans.old spans.new used most result }
 {
-    match fill_spans(bytes, spans, used, most, at) {
-        CodeAt::Code(o, n, next) => CodeAt::Code(o, n, next),
-        CodeAt::Refused(n, q) => {
-            slices::zero_u64_from(spans, 0);
-            CodeAt::Refused(n, q)
-        }
+    let code = fill_spans(cursor, spans, used, most);
+    if code.is_err() {
+        spans.fill(0);
     }
+    code
 }

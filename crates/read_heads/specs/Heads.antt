@@ -1,21 +1,19 @@
 -- The head of a row: its items, and the count of what follows them; and the row's words after the tag.
-use Rattle.std.specs.Prelude.{List, [], ◌∷◌, ◌++◌, ◌≡◌, ℕ, replicate}
+use Rattle.std.specs.Prelude.{List, [], ◌∷◌, ◌++◌, ◌≡◌, ℕ, ◌+◌, ◌≤◌, length, replicate, Result, IfOk}
 use Rattle.payload.specs.Numbers.{varint}
 use Rattle.payload.specs.Reader.{Part, Reader, ◌>>=◌, pure}
-use Rattle.payload.specs.Reading.{Context, read_items}
+use Rattle.payload.specs.Reading.{Context, read_items, read_pool_index}
 use Rattle.payload.specs.declared.Capacities.{Capacities}
+use Rattle.payload.specs.declared.Extent.{Extent}
 use Rattle.payload.specs.Rows.{items_words, items_spans, count_words, unused_words}
 use Rattle.payload.specs.Shapes.{Kids, Shape, no_value, one_value, values, keys, pairs, with_kids, with_chunk, with_fields, with_template, kinds_of}
 use Rattle.payload.specs.Trees.{Item}
 use Rattle.row_layout.specs.Under.{count_in, rows_under}
-use Rattle.read_items.specs.Reads.{Reads, read, stopped}
-use Rattle.read_items.specs.Context.{context_of}
-use Rattle.read_items.specs.declared.Number.{Number}
-use Rattle.read_items.specs.declared.Number.TheVariants as number
-use Rattle.read_items.specs.declared.PartAt.{PartAt}
-use Rattle.read_items.specs.declared.PartAt.TheVariants as part_at
+use Rattle.refusal.specs.declared.Refusal.{Refusal}
+use Rattle.cursor.specs.Advances.{Advances, answer_by}
+use Rattle.cursor.specs.declared.Cursor.{Cursor}
+use Rattle.read_items.specs.Context.{context_of, part_in}
 use Rattle.read_heads.specs.declared.Head.{Head}
-use Rattle.read_heads.specs.declared.Head.TheVariants as head
 
 ---- reading
 
@@ -44,6 +42,10 @@ read_count (with_template kinds) = varint
 unfoldable pub read_head : Context → Shape → Reader Heading
 read_head e sh = read_items e (kinds_of sh) >>= λ is. read_count sh >>= λ n. pure (heading is n)
 
+-- a name, and the number after it
+unfoldable pub read_named : Context → Reader (Part × ℕ)
+read_named e = read_pool_index e >>= λ b. varint >>= λ n. pure (b, n)
+
 ---- the row's words
 
 -- the words after the tag
@@ -52,32 +54,34 @@ head_words sh is n = items_words is ++ (count_words sh (rows_under sh n) ++ repl
 
 ---- what a head that was read has to do with the definition
 
-pub record RowRead (p names pool : List ℕ) (at : ℕ) (sh : Shape) (a b c d count next : ℕ) : Type 0 where
-  pub items : List (Item Part)
-  pub is : (cs : Capacities) → Reads p at (read_head (context_of cs p names pool) sh) (read (heading items count) next)
-  pub words : head_words sh items count ≡ a ∷ b ∷ c ∷ d ∷ []
-  pub told : count_in sh (a ∷ b ∷ c ∷ d ∷ []) ≡ count
+abbrev pub four_words : Head → List ℕ
+four_words h = h.a ∷ h.b ∷ h.c ∷ h.d ∷ []
+
+-- the head of a row of this shape with these items: its words, which tell the count
+pub record HeadOf (sh : Shape) (items : List (Item Part)) (h : Head) : Type 0 where
+  pub words : head_words sh items h.count ≡ four_words h
+  pub told : count_in sh (four_words h) ≡ h.count
   pub no_spans : items_spans items ≡ []
 
-abbrev pub HeadOut : List ℕ → List ℕ → List ℕ → ℕ → Shape → Head → Type 0
-HeadOut p names pool at sh (head.Row a b c d count next) = RowRead p names pool at sh a b c d count next
-HeadOut p names pool at sh (head.Refused n q) = (cs : Capacities) → Reads p at (read_head (context_of cs p names pool) sh) (stopped n q)
+-- r is the head of a row of this shape that a cursor at c reads
+pub record ReadsHead (c c' : Cursor) (names pool : List ℕ) (sh : Shape) (r : Result Head Refusal) : Type 0 where
+  pub items : List (Item Part)
+  pub is : (cs : Capacities) → Advances c c' (read_head (context_of cs c.payload.now names pool) sh) (answer_by (λ h. heading items h.count) r c'.at)
+  pub head : IfOk r (HeadOf sh items)
 
--- r is the head of a row of this shape at a place of p
-pub record ReadsHead (p names pool : List ℕ) (at : ℕ) (sh : Shape) (r : Head) : Type 0 where
-  pub out : HeadOut p names pool at sh r
+-- r is the name and the number that a cursor at c reads
+pub record ReadsNamed (c c' : Cursor) (pool : List ℕ) (r : Result (Extent × ℕ) Refusal) : Type 0 where
+  pub is : (names : List ℕ) (cs : Capacities)
+      → Advances c c' (read_named (context_of cs c.payload.now names pool)) (answer_by (λ x. (part_in c.payload.now x.0, x.1)) r c'.at)
+  pub inside : IfOk r (λ x. x.0.offset + x.0.length ≤ length c.payload.now)
 
----- heads of one item, or of a count alone
+---- heads of two words, of a count alone, of a part and a count of what follows it
 
-abbrev pub number_head : Number → Head
-number_head (number.Read w next) = head.Row w 0 0 0 0 next
-number_head (number.Refused n q) = head.Refused n q
+abbrev pub two_words : ℕ → ℕ → Head
+two_words a b = record { a = a; b = b; c = 0; d = 0; count = 0 }
 
-abbrev pub count_head : Number → Head
-count_head (number.Read n next) = head.Row n 0 0 0 n next
-count_head (number.Refused n q) = head.Refused n q
+abbrev pub count_head : ℕ → Head
+count_head n = record { a = n; b = 0; c = 0; d = 0; count = n }
 
--- with this count of what follows
-abbrev pub part_head : ℕ → PartAt → Head
-part_head count (part_at.Part o n next) = head.Row o n 0 0 count next
-part_head count (part_at.Refused n q) = head.Refused n q
+abbrev pub part_head : Extent → ℕ → Head
+part_head x n = record { a = x.offset; b = x.length; c = 0; d = 0; count = n }

@@ -1,18 +1,14 @@
 -- What a row is read with, as the code has it: the payload, the names list, and a pool table of offsets and lengths.
-use Rattle.std.specs.Prelude.{List, [], ◌∷◌, ℕ, ◌+◌, ◌*◌, ◌%◌, ◌≤◌, ◌<◌, drop, get_or, length, take}
+use Rattle.std.specs.Prelude.{List, [], ◌∷◌, ℕ, ◌+◌, ◌*◌, ◌%◌, ◌≤◌, ◌<◌, get_or, length, Result, IfOk}
 use Rattle.payload.specs.Names.{is_listed}
 use Rattle.payload.specs.Reader.{Part}
 use Rattle.payload.specs.Reading.{Context, read_pool_index}
 use Rattle.payload.specs.declared.Capacities.{Capacities}
-use Rattle.read_items.specs.Reads.{Answer, read, stopped, Reads}
-use Rattle.read_items.specs.declared.Number.{Number}
-use Rattle.read_items.specs.declared.Number.TheVariants as number
-use Rattle.read_items.specs.declared.PartAt.{PartAt}
-use Rattle.read_items.specs.declared.PartAt.TheVariants as part_at
-
--- n bytes of p from o on
-abbrev pub part_of : List ℕ → ℕ → ℕ → Part
-part_of p o n = record { offset = o; bytes = take n (drop o p) }
+use Rattle.refusal.specs.declared.Refusal.{Refusal}
+use Rattle.payload.specs.declared.Extent.{Extent}
+use Rattle.cursor.specs.Reads.{part_of}
+use Rattle.cursor.specs.Advances.{Advances, answer_by}
+use Rattle.cursor.specs.declared.Cursor.{Cursor}
 
 -- the strings of a pool table: two words, offset and length, for each
 unfoldable pub parts_of : List ℕ → List ℕ → List Part
@@ -44,28 +40,16 @@ context_of c p names pool = record { capacities = c; pool = parts_of p (plain_wo
 abbrev pub entry_of : List ℕ → List ℕ → ℕ → Part
 entry_of p pool i = part_of p (get_or pool (2 * i) 0 % hint_base) (get_or pool (2 * i + 1) 0 % hint_base)
 
-abbrev pub index_answer : List ℕ → List ℕ → Number → Answer Part
-index_answer p pool (number.Read i next) = read (entry_of p pool i) next
-index_answer p pool (number.Refused n q) = stopped n q
+-- r is the pool index that a cursor at c reads: an entry of the table
+pub record ReadsIndex (c c' : Cursor) (pool : List ℕ) (r : Result ℕ Refusal) : Type 0 where
+  pub is : (names : List ℕ) (cs : Capacities) → Advances c c' (read_pool_index (context_of cs c.payload.now names pool)) (answer_by (entry_of c.payload.now pool) r c'.at)
+  pub inside : IfOk r (λ i. 2 * i + 1 < length pool)
 
-abbrev pub IndexInside : List ℕ → Number → Type 0
-IndexInside pool (number.Read i next) = 2 * i + 1 < length pool
-IndexInside pool (number.Refused n q) = Unit {0}
+-- the part that stands in p
+abbrev pub part_in : List ℕ → Extent → Part
+part_in p x = part_of p x.offset x.length
 
--- r is the pool index at a place of p: an entry of the table
-pub record ReadsIndex (p pool : List ℕ) (at : ℕ) (r : Number) : Type 0 where
-  pub is : (names : List ℕ) (c : Capacities) → Reads p at (read_pool_index (context_of c p names pool)) (index_answer p pool r)
-  pub inside : IndexInside pool r
-
-abbrev pub part_answer : List ℕ → PartAt → Answer Part
-part_answer p (part_at.Part o n next) = read (part_of p o n) next
-part_answer p (part_at.Refused n q) = stopped n q
-
-abbrev pub PartInside : List ℕ → PartAt → Type 0
-PartInside p (part_at.Part o n next) = o + n ≤ length p
-PartInside p (part_at.Refused n q) = Unit {0}
-
--- r is the string that the pool index at a place of p names
-pub record ReadsPart (p pool : List ℕ) (at : ℕ) (r : PartAt) : Type 0 where
-  pub is : (names : List ℕ) (c : Capacities) → Reads p at (read_pool_index (context_of c p names pool)) (part_answer p r)
-  pub inside : PartInside p r
+-- r is the string that the pool index that a cursor at c reads names
+pub record ReadsPart (c c' : Cursor) (pool : List ℕ) (r : Result Extent Refusal) : Type 0 where
+  pub is : (names : List ℕ) (cs : Capacities) → Advances c c' (read_pool_index (context_of cs c.payload.now names pool)) (answer_by (part_in c.payload.now) r c'.at)
+  pub inside : IfOk r (λ x. x.offset + x.length ≤ length c.payload.now)

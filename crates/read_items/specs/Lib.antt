@@ -1,5 +1,3 @@
-pub mod Reads
 pub mod Context
 pub mod Numbers
-pub mod Positions
 pub mod Laws

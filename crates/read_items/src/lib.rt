@@ -5,30 +5,9 @@ pub mod items;
 pub mod numbers;
 pub mod positions;
 
-// A number and the place after it, or a refusal's number and place.
-#[derive(Clone, Copy)]
-pub enum Number {
-    Read(u64, usize),
-    Refused(u64, usize),
-}
-
-// A running position and the place after its delta, or a refusal's number and place.
-#[derive(Clone, Copy)]
-pub enum PositionAt {
-    Position(i64, usize),
-    Refused(u64, usize),
-}
-
 // The words of a pool table are offsets and lengths below this base. What stands above it, while a payload is read, is a hint where a native's name may stand in the list:
 // no answer rests on it.
 pub const HINT_BASE: u64 = 0x200_0000;
-
-// A string's offset and length and the place after its pool index, or a refusal's number and place.
-#[derive(Clone, Copy)]
-pub enum PartAt {
-    Part(u64, u64, usize),
-    Refused(u64, usize),
-}
 
 // The kinds of number that are a varint, cut.
 #[derive(Clone, Copy)]

@@ -1,11 +1,13 @@
 // Numbers of every kind.
-ghost use Rattle.std.specs.Prelude.{◌≡◌, ◌≤◌, length};
-ghost use Rattle.payload.specs.Numbers.{read_number, unzigzag_word, is_scalar, bool, char, handle, f64, f32};
-ghost use Rattle.read_items.specs.Reads.{Reads, number_answer};
+ghost use Rattle.std.specs.Prelude.{◌≡◌, ◌≤◌, ◌<◌, ◌^◌, length, IfOk};
+ghost use Rattle.slices.specs.LittleEndian.{from_le_bytes};
+ghost use Rattle.payload.specs.Numbers.{read_number, read_float, unzigzag_word, is_scalar, bool, char, handle};
+ghost use Rattle.cursor.specs.Advances.{Advances, answer_of};
 ghost use Rattle.read_items.specs.Numbers.{kind_of, cut_word};
 
-use crate::{Cut, Number, items};
-use cursor::Body;
+use crate::Cut;
+use cursor::Cursor;
+use refusal::{Reason, Refusal};
 
 // The word of a signed number, from its zigzag.
 fn signed_word(z: u64) -> u64
@@ -29,87 +31,62 @@ fn cut_word(cut: Cut, v: u64) -> u64
     }
 }
 
-pub fn read_cut(cut: Cut, bytes: &[u8], at: usize) -> Number
-    ensures { Reads bytes.now at (read_number (kind_of cut)) (number_answer result) }
+pub fn read_cut(cut: Cut, cursor: &mut Cursor<'_>) -> Result<u64, Refusal>
+    ensures { Advances cursor.old cursor.new (read_number (kind_of cut)) (answer_of result cursor.new.at) }
 {
-    match items::read_uvarint(bytes, at) {
-        Number::Read(v, next) => Number::Read(cut_word(cut, v), next),
-        Number::Refused(n, q) => Number::Refused(n, q),
-    }
+    Ok(cut_word(cut, cursor.uvarint()?))
 }
 
-pub fn read_bool(bytes: &[u8], at: usize) -> Number
-    ensures { Reads bytes.now at (read_number bool) (number_answer result) }
+pub fn read_bool(cursor: &mut Cursor<'_>) -> Result<u64, Refusal>
+    ensures { Advances cursor.old cursor.new (read_number bool) (answer_of result cursor.new.at) }
 {
-    match items::read_byte(bytes, at) {
-        Number::Read(b, next) => {
-            if b == 0 {
-                return Number::Read(0, next);
-            }
-            Number::Read(1, next)
-        }
-        Number::Refused(n, q) => Number::Refused(n, q),
-    }
+    Ok((cursor.byte()? != 0) as u64)
 }
 
 fn is_scalar(c: u64) -> bool
     ensures { result ≡ is_scalar c }
 {
-    if c < 0xd800 {
-        return true;
-    }
-    if c < 0xe000 {
-        return false;
-    }
-    c < 0x11_0000
+    c < 0xd800 || 0xe000 <= c && c < 0x11_0000
 }
 
-pub fn read_char(bytes: &[u8], at: usize) -> Number
-    ensures { Reads bytes.now at (read_number char) (number_answer result) }
+pub fn read_char(cursor: &mut Cursor<'_>) -> Result<u64, Refusal>
+    ensures { Advances cursor.old cursor.new (read_number char) (answer_of result cursor.new.at) }
 {
-    match items::read_uvarint(bytes, at) {
-        Number::Read(v, next) => {
-            let c = v % 0x1_0000_0000;
-            if is_scalar(c) {
-                return Number::Read(c, next);
-            }
-            Number::Refused(6, at)
-        }
-        Number::Refused(n, q) => Number::Refused(n, q),
+    let at = cursor.at;
+    let c = cursor.uvarint()? % 0x1_0000_0000;
+    if is_scalar(c) {
+        return Ok(c);
     }
+    Err(Reason::NotScalar.at(at))
 }
 
-pub fn read_handle_kind(bytes: &[u8], at: usize) -> Number
-    ensures { Reads bytes.now at (read_number handle) (number_answer result) }
+pub fn read_handle_kind(cursor: &mut Cursor<'_>) -> Result<u64, Refusal>
+    ensures { Advances cursor.old cursor.new (read_number handle) (answer_of result cursor.new.at) }
 {
-    match items::read_uvarint(bytes, at) {
-        Number::Read(v, next) => {
-            let kind = v % 0x100;
-            if kind <= 5 {
-                return Number::Read(kind, next);
-            }
-            Number::Refused(12, at)
-        }
-        Number::Refused(n, q) => Number::Refused(n, q),
+    let at = cursor.at;
+    let kind = cursor.uvarint()? % 0x100;
+    if kind <= 5 {
+        return Ok(kind);
     }
+    Err(Reason::UnknownHandle.at(at))
 }
 
-pub fn read_f64(bytes: &[u8], at: usize) -> Number
-    requires { at ≤ length bytes.now }
-    ensures { Reads bytes.now at (read_number f64) (number_answer result) }
+// The number of N bytes.
+fn number_of<const N: usize>(bytes: &[u8]) -> u64
+    requires { (length bytes.now ≡ N) × (N ≤ 8) }
+    ensures is { result ≡ from_le_bytes bytes.now }
+    ensures small { result < 256 ^ N }
 {
-    match cursor::read_body(bytes, at, 8) {
-        Body::At(offset, next) => Number::Read(slices::word(bytes, offset), next),
-        Body::Short(q) => Number::Refused(1, q),
-    }
+    let mut bits = [0u8; 8];
+    bits[..N].copy_from_slice(bytes);
+    slices::word(&bits, 0)
 }
 
-pub fn read_f32(bytes: &[u8], at: usize) -> Number
-    requires { at ≤ length bytes.now }
-    ensures { Reads bytes.now at (read_number f32) (number_answer result) }
+// A float of N bytes, by its bits.
+pub fn read_float<const N: usize>(cursor: &mut Cursor<'_>) -> Result<u64, Refusal>
+    requires { N ≤ 8 }
+    ensures advances { Advances cursor.old cursor.new (read_float N) (answer_of result cursor.new.at) }
+    ensures small { IfOk result (λ bits. bits < 256 ^ N) }
 {
-    match cursor::read_body(bytes, at, 4) {
-        Body::At(offset, next) => Number::Read(slices::half(bytes, offset), next),
-        Body::Short(q) => Number::Refused(1, q),
-    }
+    Ok(number_of::<N>(cursor.take(N)?))
 }

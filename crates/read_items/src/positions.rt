@@ -1,20 +1,15 @@
 // Running positions, each a signed delta after the one before.
 ghost use Rattle.payload.specs.Spans.{read_position};
-ghost use Rattle.read_items.specs.Reads.{Reads};
-ghost use Rattle.read_items.specs.Positions.{position_answer};
+ghost use Rattle.cursor.specs.Advances.{Advances, answer_of};
 
-use crate::{Number, PositionAt, items};
-use signed::Position;
+use cursor::Cursor;
+use refusal::{Reason, Refusal};
 
-// The position that the delta at `at` leads to from an old one.
-pub fn read_position(bytes: &[u8], old: i64, at: usize) -> PositionAt
-    ensures { Reads bytes.now at (read_position old) (position_answer result) }
+// The position that the delta that stands here leads to from an old one.
+pub fn read_position(cursor: &mut Cursor<'_>, old: i64) -> Result<i64, Refusal>
+    ensures { Advances cursor.old cursor.new (read_position old) (answer_of result cursor.new.at) }
 {
-    match items::read_uvarint(bytes, at) {
-        Number::Read(delta, next) => match signed::add_delta(old, signed::unzigzag(delta)) {
-            Position::At(new) => PositionAt::Position(new, next),
-            Position::OutOfRange => PositionAt::Refused(8, at),
-        },
-        Number::Refused(n, q) => PositionAt::Refused(n, q),
-    }
+    let at = cursor.at;
+    let delta = signed::unzigzag(cursor.uvarint()?);
+    signed::add_delta(old, delta).ok_or(Reason::PositionOutOfRange.at(at))
 }

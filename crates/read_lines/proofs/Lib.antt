@@ -1,2 +1,2 @@
 pub mod Starts
-pub mod Lines
+pub mod Flagged

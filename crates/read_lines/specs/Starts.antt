@@ -1,22 +1,24 @@
 -- What the function that reads the starts of a line index has to do with the definition's reader.
-use Rattle.std.specs.Prelude.{List, ◌≡◌, ℕ, ◌≤◌, pos, length}
+use Rattle.std.specs.Prelude.{List, ◌≡◌, ℕ, ◌≤◌, pos, length, Result, Ok, Err}
+use Rattle.refusal.specs.Number.{number}
+use Rattle.refusal.specs.declared.Refusal.{Refusal}
 use Rattle.slices.specs.Put.{put}
 use Rattle.payload.specs.Reading.{read_starts}
-use Rattle.read_items.specs.Reads.{read, stopped, Reads}
-use Rattle.read_lines.specs.declared.StartsAt.{StartsAt}
-use Rattle.read_lines.specs.declared.StartsAt.TheVariants.{Starts, Refused}
+use Rattle.cursor.specs.Reads.{read, stopped}
+use Rattle.cursor.specs.Advances.{Advances}
+use Rattle.cursor.specs.declared.Cursor.{Cursor}
 
 -- k starts in the table from its begin
-pub record Stored (p table table' : List ℕ) (most count at k next : ℕ) : Type 0 where
+pub record Stored (c c' : Cursor) (table table' : List ℕ) (most count k : ℕ) : Type 0 where
   pub starts : List ℕ
-  pub reads : Reads p at (read_starts most count 0 (pos 0)) (read starts next)
+  pub reads : Advances c c' (read_starts most count 0 (pos 0)) (read starts c'.at)
   pub each : length starts ≡ k
   pub fits : k ≤ most
   pub stored : table' ≡ put table 0 starts
 
-abbrev pub StartsOutcome : List ℕ → List ℕ → List ℕ → ℕ → ℕ → ℕ → StartsAt → Type 0
-StartsOutcome p table table' most count at (Starts k next) = Stored p table table' most count at k next
-StartsOutcome p table table' most count at (Refused n q) = Reads p at (read_starts most count 0 (pos 0)) (stopped n q)
+abbrev pub StartsOutcome : Cursor → Cursor → List ℕ → List ℕ → ℕ → ℕ → Result ℕ Refusal → Type 0
+StartsOutcome c c' table table' most count (Ok k) = Stored c c' table table' most count k
+StartsOutcome c c' table table' most count (Err e) = Advances c c' (read_starts most count 0 (pos 0)) (stopped (number e.reason) e.place)
 
-pub record StartsRead (p table table' : List ℕ) (most count at : ℕ) (r : StartsAt) : Type 0 where
-  pub outcome : StartsOutcome p table table' most count at r
+pub record StartsRead (c c' : Cursor) (table table' : List ℕ) (most count : ℕ) (r : Result ℕ Refusal) : Type 0 where
+  pub outcome : StartsOutcome c c' table table' most count r

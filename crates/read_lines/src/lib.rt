@@ -7,121 +7,91 @@ ghost use Rattle.read_items.specs.Context.{PoolFits};
 ghost use Rattle.read_lines.specs.LinesRead.{LinesFilled, LinesRead};
 ghost use Rattle.read_lines.specs.Starts.{StartsRead};
 
-use read_items::{Number, PartAt, PositionAt, items, positions};
+use cursor::Cursor;
+use payload::Extent;
+use read_items::{items, positions};
+use refusal::{Reason, Refusal};
 
-// A line index that was read, or that there is none: its flag, its name's offset and length, the count of its starts and the place after it.
+// A line index that was read: its name and the count of its starts. Without a name there is none, and the line flag is 0.
 #[derive(Clone, Copy)]
-pub struct LineIndexAt {
-    pub flag: u64,
-    pub name_o: usize,
-    pub name_n: usize,
+pub struct Lines {
+    pub name: Option<Extent>,
     pub starts: usize,
-    pub next: usize,
 }
 
-// A line index, or a refusal's number and place.
-#[derive(Clone, Copy)]
-pub enum LinesAt {
-    Lines(LineIndexAt),
-    Refused(u64, usize),
-}
-
-// The count of the starts and the place after them, or a refusal's number and place.
-#[derive(Clone, Copy)]
-enum StartsAt {
-    Starts(usize, usize),
-    Refused(u64, usize),
-}
-
-// The starts from `at` on, of which the table holds at most `most`. Their sum is kept uncut; a start is stored modulo 2^32.
-fn read_starts(bytes: &[u8], starts: &mut [u32], most: usize, count: u64, at: usize) -> StartsAt
-    requires { (at ≤ length bytes.now) × (most ≤ length starts.old) }
-    ensures { StartsRead bytes.now starts.old starts.new most count at result }
+// The starts, of which the table holds at most `most`. Their sum is kept uncut; a start is stored modulo 2^32.
+fn read_starts(
+    cursor: &mut Cursor<'_>,
+    starts: &mut [u32],
+    most: usize,
+    count: usize,
+) -> Result<usize, Refusal>
+    requires { most ≤ length starts.old }
+    ensures { StartsRead cursor.old cursor.new starts.old starts.new most count result }
 {
-    let mut k: usize = 0;
     let mut sum: i64 = 0;
-    let mut next = at;
-    while (k as u64) < count {
+    for k in 0..count {
         if most <= k {
-            return StartsAt::Refused(24, next);
+            return Err(Reason::StartsFull.at(cursor.at));
         }
-        match positions::read_position(bytes, sum, next) {
-            PositionAt::Position(moved, after) => {
-                starts[k] = (signed::to_word(moved) % 0x1_0000_0000) as u32;
-                sum = moved;
-                next = after;
-                k += 1;
-            }
-            PositionAt::Refused(n, q) => return StartsAt::Refused(n, q),
-        }
+        sum = positions::read_position(cursor, sum)?;
+        starts[k] = (signed::to_word(sum) % 0x1_0000_0000) as u32;
     }
-    StartsAt::Starts(k, next)
+    Ok(count)
 }
 
 // What stands after a flag of 1: the name and the starts.
-fn read_flagged(bytes: &[u8], pool: &[u64], starts: &mut [u32], most: usize, at: usize) -> LinesAt
-    requires { (most ≤ length starts.old) × PoolFits bytes.now pool.now }
-    ensures { LinesFilled bytes.now pool.now starts.old starts.new most at (λ e. read_flagged e 1) result }
-{
-    match items::read_pool_index(bytes, pool, at) {
-        PartAt::Part(o, n, count_at) => match items::read_uvarint(bytes, count_at) {
-            Number::Read(count, first) => match read_starts(bytes, starts, most, count, first) {
-                StartsAt::Starts(k, next) => LinesAt::Lines(LineIndexAt {
-                    flag: 1,
-                    name_o: o as usize,
-                    name_n: n as usize,
-                    starts: k,
-                    next: next,
-                }),
-                StartsAt::Refused(n, q) => LinesAt::Refused(n, q),
-            },
-            Number::Refused(n, q) => LinesAt::Refused(n, q),
-        },
-        PartAt::Refused(n, q) => LinesAt::Refused(n, q),
-    }
-}
-
-// The line index at `at`, its starts into the table from its begin on. A refusal leaves in it the starts before.
-fn fill_starts(bytes: &[u8], pool: &[u64], starts: &mut [u32], most: usize, at: usize) -> LinesAt
-    requires { (most ≤ length starts.old) × PoolFits bytes.now pool.now }
-    ensures { LinesFilled bytes.now pool.now starts.old starts.new most at read_line_index result }
-{
-    match items::read_byte(bytes, at) {
-        Number::Read(flag, next) => {
-            if 1 < flag {
-                return LinesAt::Refused(13, at);
-            }
-            if flag == 0 {
-                return LinesAt::Lines(LineIndexAt {
-                    flag: 0,
-                    name_o: 0,
-                    name_n: 0,
-                    starts: 0,
-                    next: next,
-                });
-            }
-            read_flagged(bytes, pool, starts, most, next)
-        }
-        Number::Refused(n, q) => LinesAt::Refused(n, q),
-    }
-}
-
-// Reads the line index at `at`, whose starts go into a table that holds at most `most`. A refusal leaves zeros in the table.
-pub fn read_line_index(
-    bytes: &[u8],
+fn read_flagged(
+    cursor: &mut Cursor<'_>,
     pool: &[u64],
     starts: &mut [u32],
     most: usize,
-    at: usize,
-) -> LinesAt
-    requires { (most ≤ length starts.old) × PoolFits bytes.now pool.now }
-    ensures { LinesRead bytes.now pool.now starts.old starts.new most at result }
+) -> Result<Lines, Refusal>
+    requires { (most ≤ length starts.old) × PoolFits cursor.old.payload.now pool.now }
+    ensures { LinesFilled cursor.old cursor.new pool.now starts.old starts.new most (λ e. read_flagged e 1) result }
 {
-    match fill_starts(bytes, pool, starts, most, at) {
-        LinesAt::Lines(lines) => LinesAt::Lines(lines),
-        LinesAt::Refused(n, q) => {
-            slices::zero_u32_from(starts, 0);
-            LinesAt::Refused(n, q)
-        }
+    let name = items::read_pool_index(cursor, pool)?;
+    let count = cursor.uvarint()? as usize;
+    Ok(Lines {
+        name: Some(name),
+        starts: read_starts(cursor, starts, most, count)?,
+    })
+}
+
+// The line index, its starts into the table from its begin on. A refusal leaves in it the starts before.
+fn fill_starts(
+    cursor: &mut Cursor<'_>,
+    pool: &[u64],
+    starts: &mut [u32],
+    most: usize,
+) -> Result<Lines, Refusal>
+    requires { (most ≤ length starts.old) × PoolFits cursor.old.payload.now pool.now }
+    ensures { LinesFilled cursor.old cursor.new pool.now starts.old starts.new most read_line_index result }
+{
+    let at = cursor.at;
+    match cursor.byte()? {
+        0 => Ok(Lines {
+            name: None,
+            starts: 0,
+        }),
+        1 => read_flagged(cursor, pool, starts, most),
+        _ => Err(Reason::WrongLineFlag.at(at)),
     }
+}
+
+// Reads the line index, whose starts go into a table that holds at most `most`. A refusal leaves zeros in the table.
+pub fn read_line_index(
+    cursor: &mut Cursor<'_>,
+    pool: &[u64],
+    starts: &mut [u32],
+    most: usize,
+) -> Result<Lines, Refusal>
+    requires { (most ≤ length starts.old) × PoolFits cursor.old.payload.now pool.now }
+    ensures { LinesRead cursor.old cursor.new pool.now starts.old starts.new most result }
+{
+    let lines = fill_starts(cursor, pool, starts, most);
+    if lines.is_err() {
+        starts.fill(0);
+    }
+    lines
 }

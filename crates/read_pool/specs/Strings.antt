@@ -1,33 +1,35 @@
 -- What the functions that read the pool's strings have to do with the definition's readers.
-use Rattle.std.specs.Prelude.{List, ◌≡◌, ℕ, ◌+◌, ◌≤◌, length}
+use Rattle.std.specs.Prelude.{List, ◌≡◌, ℕ, ◌+◌, ◌≤◌, length, Result, Ok, Err, IfOk}
+use Rattle.refusal.specs.Number.{number}
+use Rattle.refusal.specs.declared.Refusal.{Refusal}
 use Rattle.slices.specs.Put.{put}
 use Rattle.payload.specs.Reader.{Part}
-use Rattle.payload.specs.Reading.{read_strings}
+use Rattle.payload.specs.Reading.{read_string, read_strings}
 use Rattle.payload.specs.Tables.{parts_words}
-use Rattle.read_items.specs.Reads.{Answer, read, stopped, Reads}
-use Rattle.read_items.specs.Context.{part_of, parts_of, PartsFit}
-use Rattle.read_pool.specs.declared.PoolAt.{PoolAt}
-use Rattle.read_pool.specs.declared.PoolAt.TheVariants as pool-at
-use Rattle.read_pool.specs.declared.StringAt.{StringAt}
-use Rattle.read_pool.specs.declared.StringAt.TheVariants as string-at
+use Rattle.payload.specs.declared.Extent.{Extent}
+use Rattle.cursor.specs.Reads.{read, stopped}
+use Rattle.cursor.specs.Advances.{Advances, answer_by}
+use Rattle.cursor.specs.declared.Cursor.{Cursor}
+use Rattle.read_items.specs.Context.{parts_of, part_in, PartsFit}
 
-abbrev pub string_answer : List ℕ → StringAt → Answer Part
-string_answer p (string-at.Body o n) = read (part_of p o n) (o + n)
-string_answer p (string-at.Refused n q) = stopped n q
+-- r is the string that a cursor at c reads
+pub record ReadsString (c c' : Cursor) (r : Result Extent Refusal) : Type 0 where
+  pub is : Advances c c' read_string (answer_by (part_in c.payload.now) r c'.at)
+  pub inside : IfOk r (λ x. x.offset + x.length ≤ length c.payload.now)
 
 -- strings in the table from its begin; the words stored are a pool table, whose strings are those read
-pub record Stored (p table table' : List ℕ) (most count at n next : ℕ) : Type 0 where
+pub record Stored (c c' : Cursor) (table table' : List ℕ) (most count n : ℕ) : Type 0 where
   pub parts : List Part
-  pub reads : Reads p at (read_strings most count 0) (read parts next)
+  pub reads : Advances c c' (read_strings most count 0) (read parts c'.at)
   pub each : length parts ≡ n
   pub fits : n ≤ most
   pub stored : table' ≡ put table 0 (parts_words parts)
-  pub strings : parts_of p (parts_words parts) ≡ parts
-  pub strings_inside : PartsFit p (parts_words parts)
+  pub strings : parts_of c.payload.now (parts_words parts) ≡ parts
+  pub strings_inside : PartsFit c.payload.now (parts_words parts)
 
-abbrev pub StringsOutcome : List ℕ → List ℕ → List ℕ → ℕ → ℕ → ℕ → PoolAt → Type 0
-StringsOutcome p table table' most count at (pool-at.Pool n next) = Stored p table table' most count at n next
-StringsOutcome p table table' most count at (pool-at.Refused n q) = Reads p at (read_strings most count 0) (stopped n q)
+abbrev pub StringsOutcome : Cursor → Cursor → List ℕ → List ℕ → ℕ → ℕ → Result ℕ Refusal → Type 0
+StringsOutcome c c' table table' most count (Ok n) = Stored c c' table table' most count n
+StringsOutcome c c' table table' most count (Err e) = Advances c c' (read_strings most count 0) (stopped (number e.reason) e.place)
 
-pub record StringsRead (p table table' : List ℕ) (most count at : ℕ) (r : PoolAt) : Type 0 where
-  pub outcome : StringsOutcome p table table' most count at r
+pub record StringsRead (c c' : Cursor) (table table' : List ℕ) (most count : ℕ) (r : Result ℕ Refusal) : Type 0 where
+  pub outcome : StringsOutcome c c' table table' most count r

@@ -2,94 +2,62 @@
 #![tactic(auto)]
 
 ghost use Rattle.std.specs.Prelude.{◌*◌, ◌≤◌, length};
-ghost use Rattle.payload.specs.Reading.{read_string};
-ghost use Rattle.read_items.specs.Reads.{Reads};
 ghost use Rattle.read_pool.specs.PoolRead.{PoolFilled, PoolRead};
-ghost use Rattle.read_pool.specs.Strings.{string_answer, StringsRead};
+ghost use Rattle.read_pool.specs.Strings.{ReadsString, StringsRead};
 
-use cursor::Body;
-use read_items::{Number, items};
+use cursor::Cursor;
+use payload::Extent;
+use refusal::{Reason, Refusal};
 
-// The count of the strings and the place after the pool, or a refusal's number and place.
-#[derive(Clone, Copy)]
-pub enum PoolAt {
-    Pool(usize, usize),
-    Refused(u64, usize),
-}
-
-// A string's offset and length, or a refusal's number and place.
-#[derive(Clone, Copy)]
-enum StringAt {
-    Body(usize, usize),
-    Refused(u64, usize),
-}
-
-fn read_string(bytes: &[u8], at: usize) -> StringAt
-    ensures { Reads bytes.now at read_string (string_answer bytes.now result) }
+fn read_string(cursor: &mut Cursor<'_>) -> Result<Extent, Refusal>
+    ensures { ReadsString cursor.old cursor.new result }
 {
-    match items::read_uvarint(bytes, at) {
-        Number::Read(size, first) => {
-            let n = size as usize;
-            match cursor::read_body(bytes, first, n) {
-                Body::At(offset, next) => {
-                    if utf8::part_is_utf8(bytes, offset, n) {
-                        return StringAt::Body(offset, n);
-                    }
-                    StringAt::Refused(3, offset)
-                }
-                Body::Short(q) => StringAt::Refused(1, q),
-            }
-        }
-        Number::Refused(n, q) => StringAt::Refused(n, q),
+    let length = cursor.uvarint()? as usize;
+    let offset = cursor.at;
+    if utf8::is_utf8(cursor.take(length)?) {
+        return Ok(Extent { offset, length });
     }
+    Err(Reason::NotUtf8.at(offset))
 }
 
-// The strings from `at` on, of which the table holds at most `most`.
-fn read_strings(bytes: &[u8], pool: &mut [u64], most: usize, count: u64, at: usize) -> PoolAt
-    requires { (at ≤ length bytes.now) × (2 * most ≤ length pool.old) }
-    ensures { StringsRead bytes.now pool.old pool.new most count at result }
+// The strings, of which the table holds at most `most`.
+fn read_strings(
+    cursor: &mut Cursor<'_>,
+    pool: &mut [u64],
+    most: usize,
+    count: usize,
+) -> Result<usize, Refusal>
+    requires { 2 * most ≤ length pool.old }
+    ensures { StringsRead cursor.old cursor.new pool.old pool.new most count result }
 {
-    let mut k: usize = 0;
-    let mut next = at;
-    while (k as u64) < count {
+    for k in 0..count {
         if most <= k {
-            return PoolAt::Refused(21, next);
+            return Err(Reason::PoolFull.at(cursor.at));
         }
-        match read_string(bytes, next) {
-            StringAt::Body(offset, n) => {
-                let i = 2 * k;
-                pool[i] = offset as u64;
-                pool[i + 1] = n as u64;
-                next = offset + n;
-                k += 1;
-            }
-            StringAt::Refused(n, q) => return PoolAt::Refused(n, q),
-        }
+        let string = read_string(cursor)?;
+        pool[2 * k] = string.offset as u64;
+        pool[2 * k + 1] = string.length as u64;
     }
-    PoolAt::Pool(k, next)
+    Ok(count)
 }
 
 // The count and the strings, into the table from its begin on. A refusal leaves in it the strings before.
-fn fill_pool(bytes: &[u8], pool: &mut [u64], most: usize) -> PoolAt
+fn fill_pool(cursor: &mut Cursor<'_>, pool: &mut [u64], most: usize) -> Result<usize, Refusal>
     requires { 2 * most ≤ length pool.old }
-    ensures { PoolFilled bytes.now pool.old pool.new most result }
+    ensures { PoolFilled cursor.old cursor.new pool.old pool.new most result }
 {
-    match items::read_uvarint(bytes, 0) {
-        Number::Read(count, first) => read_strings(bytes, pool, most, count, first),
-        Number::Refused(n, q) => PoolAt::Refused(n, q),
-    }
+    let count = cursor.uvarint()? as usize;
+    read_strings(cursor, pool, most, count)
 }
 
-// Reads the pool, which stands at the payload's begin. A refusal leaves zeros in the table.
-pub fn read_pool(bytes: &[u8], pool: &mut [u64], most: usize) -> PoolAt
+// Reads the pool. A refusal leaves zeros in the table.
+pub fn read_pool(cursor: &mut Cursor<'_>, pool: &mut [u64], most: usize) -> Result<usize, Refusal>
     requires { 2 * most ≤ length pool.old }
-    ensures { PoolRead bytes.now pool.old pool.new most result }
+    ensures { PoolRead cursor.old cursor.new pool.old pool.new most result }
 {
-    match fill_pool(bytes, pool, most) {
-        PoolAt::Pool(n, next) => PoolAt::Pool(n, next),
-        PoolAt::Refused(n, q) => {
-            slices::zero_u64_from(pool, 0);
-            PoolAt::Refused(n, q)
-        }
+    let count = fill_pool(cursor, pool, most);
+    if count.is_err() {
+        pool.fill(0);
     }
+    count
 }

@@ -18,15 +18,18 @@ use Rattle.payload.specs.Rows.{row_table, row_width, row_words}
 use Rattle.payload.specs.Shapes.{is_key_tag}
 use Rattle.payload.specs.Trees.{Node, Trees, cons, single}
 use Rattle.read_items.specs.Context.{PoolFits}
-use Rattle.read_values.specs.Did.{many_trees, one_tree, Fit, Ran, Did, context}
+use Rattle.refusal.specs.Number.{number}
+use Rattle.refusal.specs.Laws.Number.{number_positive}
+use Rattle.refusal.specs.declared.Reason.{Reason}
+use Rattle.refusal.specs.declared.Refusal.{Refusal}
+use Rattle.std.specs.Prelude.{Ok, Err}
+use Rattle.read_values.specs.Did.{many_trees, one_tree, Fit, Ran, Did, Step, context}
 use Rattle.read_values.specs.State.{state_of}
 use Rattle.key_test.specs.Keys.{key_refusal, seen_in, tag_of}
 use Rattle.read_values.specs.Entries.{joined, read_entries}
 use Rattle.read_values.specs.Laws.Did.{ran_of, no_of, ran_joined, ran_more, two_runs}
 use Rattle.payload.specs.declared.Capacities.{Capacities}
 use Rattle.read_values.specs.declared.State.{State}
-use Rattle.read_values.specs.declared.Step.{Step}
-use Rattle.read_values.specs.declared.Step.TheVariants.{Done, Refused}
 use Rattle.key_test.specs.Laws.Entries.{AllGood, Entry, Good, KeyNode, entries_size, entries_table, good_more, keys_of, seen_entries, table_length, table_more}
 use Rattle.read_values.proofs.KeyRead.{key_read}
 use Rattle.read_values.proofs.Loop.{did_none, fit_next}
@@ -211,8 +214,8 @@ module _ (capacities : Capacities) (p names pool : List ℕ) (d gap : ℕ) where
       Did many_trees capacities p rows'' c spans'' c' next.rows next.spans r (read_entries gap n (node_key t ∷ seen) value (state_of p next)) →
       Did many_trees capacities p rows c spans c' now.rows now.spans r (read_entries gap (suc n) seen value (state_of p now))
   unfolding read_entries ◌>>=◌ ◌>>◌ and_then here pure
-  step_entry now mid next seen n t vs c c' (Refused m q) g f w x = record { out = rw (g.is, f.is, w, x.out) }
-  step_entry now mid next seen n t vs c c' (Done z) g f w x =
+  step_entry now mid next seen n t vs c c' (Err e) g f w x = record { out = rw (g.is, f.is, w, x.out) }
+  step_entry now mid next seen n t vs c c' (Ok z) g f w x =
       let ts = x.out.0 in
       record {
         out = (
@@ -229,24 +232,24 @@ module _ (capacities : Capacities) (p names pool : List ℕ) (d gap : ℕ) where
 
     -- the key is refused
     pub entries_stop :
-        {n q : ℕ} → r ≡ Refused n q →
-        Did many_trees capacities p rows₀ rows' spans₀ spans' st.rows st.spans (Refused n q) (read_entries gap count [] value (state_of p st))
+        {a : Refusal} → r ≡ Err a →
+        Did many_trees capacities p rows₀ rows' spans₀ spans' st.rows st.spans (Err a) (read_entries gap count [] value (state_of p st))
     unfolding read_entries ◌>>=◌ ◌>>◌ and_then here
-    entries_stop {n} {q} e = s.rest rows' spans' (Refused n q) (rw more (record { out = rw (no_of e x) }))
+    entries_stop {a} e = s.rest rows' spans' (Err a) (rw more (record { out = rw (no_of e x) }))
 
-    module _ {mid : State} (e : r ≡ Done mid) {rows'' spans'' : List ℕ} {r' : Step}
+    module _ {mid : State} (e : r ≡ Ok mid) {rows'' spans'' : List ℕ} {r' : Step}
         (y : Did many_trees capacities p rows' rows'' spans' spans'' mid.rows mid.spans r' (read_many gap value (state_of p mid))) where
       key_ran : (t : Node Part) × Ran one_tree capacities p rows rows' spans spans' now.rows now.spans mid t (value (state_of p now))
       key_ran = ran_of e x
 
       -- the value after the key is refused
       pub entries_half :
-          {n q : ℕ} → r' ≡ Refused n q →
-          Did many_trees capacities p rows₀ rows'' spans₀ spans'' st.rows st.spans (Refused n q) (read_entries gap count [] value (state_of p st))
+          {a : Refusal} → r' ≡ Err a →
+          Did many_trees capacities p rows₀ rows'' spans₀ spans'' st.rows st.spans (Err a) (read_entries gap count [] value (state_of p st))
       unfolding read_entries ◌>>=◌ ◌>>◌ and_then here
-      entries_half {n} {q} f = s.rest rows'' spans'' (Refused n q) (rw more (record { out = rw (key_ran.1.is, no_of f y) }))
+      entries_half {a} f = s.rest rows'' spans'' (Err a) (rw more (record { out = rw (key_ran.1.is, no_of f y) }))
 
-      module _ (fits : PoolFits p pool) {next : State} (f : r' ≡ Done next) {m : ℕ} (told : m ≡ key_refusal p rows'' gap st.rows now.rows) where
+      module _ (fits : PoolFits p pool) {next : State} (f : r' ≡ Ok next) {m : ℕ} (told : m ≡ key_refusal p rows'' gap st.rows now.rows) where
         values_ran :
             (vs : Trees Part) × Ran many_trees capacities p rows' rows'' spans' spans'' mid.rows mid.spans next vs (read_many gap value (state_of p mid))
         values_ran = ran_of f y
@@ -267,13 +270,15 @@ module _ (capacities : Capacities) (p names pool : List ℕ) (d gap : ℕ) where
 
         -- the key test refuses
         pub entries_bad :
-            (m ≡ 0 → ⊥) →
-            Did many_trees capacities p rows₀ rows'' spans₀ spans'' st.rows st.spans (Refused m now.at)
+            (reason : Reason) → m ≡ number reason →
+            Did many_trees capacities p rows₀ rows'' spans₀ spans'' st.rows st.spans (Err (record { reason = reason; place = now.at }))
             (read_entries gap count [] value (state_of p st))
         unfolding read_entries ◌>>=◌ ◌>>◌ and_then here
-        entries_bad n =
-            s.rest rows'' spans'' (Refused m now.at)
-            (rw more (record { out = rw (key_ran.1.is, values_ran.1.is, test_refused now.at s.seen key_ran.0 (state_of p next) is_tested n) }))
+        entries_bad reason w =
+            s.rest rows'' spans'' (Err (record { reason = reason; place = now.at }))
+            (rw more (record {
+              out = rw (key_ran.1.is, values_ran.1.is, test_refused now.at s.seen key_ran.0 (state_of p next) (sym w ∙ is_tested) (number_positive reason));
+            }))
 
         pub entries_next :
             m ≡ 0 → length rows'' ≡ length rows → length spans'' ≡ length spans →
@@ -291,7 +296,7 @@ module _ (capacities : Capacities) (p names pool : List ℕ) (d gap : ℕ) where
 
   pub entries_end :
       {rows₀ spans₀ rows spans : List ℕ} {st now : State} {count k : ℕ} → EntrySofar capacities p rows₀ rows spans₀ spans gap value st now count k → count ≤ k →
-      Did many_trees capacities p rows₀ rows spans₀ spans st.rows st.spans (Done now) (read_entries gap count [] value (state_of p st))
+      Did many_trees capacities p rows₀ rows spans₀ spans st.rows st.spans (Ok now) (read_entries gap count [] value (state_of p st))
   unfolding read_entries
   entries_end {rows = rows} {spans = spans} {now = now} {count = count} {k = k} s h =
-      let z : count - k ≡ 0 = omega arith in s.rest rows spans (Done now) (rw z (did_none s.fit))
+      let z : count - k ≡ 0 = omega arith in s.rest rows spans (Ok now) (rw z (did_none s.fit))

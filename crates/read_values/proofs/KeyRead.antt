@@ -19,7 +19,8 @@ use Rattle.payload.specs.declared.Capacities.{Capacities}
 use Rattle.payload.specs.Rows.{count_words, item_words, items_words, kids_count_words, kind_width, kinds_width, part_words, root_count, row_table, row_words, unused_words}
 use Rattle.payload.specs.Shapes.{ItemKind, Shape, is_key_tag, keys, kinds_of, no_value, one_value, pairs, shape, shapes, values, with_chunk, with_fields, with_kids, with_template}
 use Rattle.payload.specs.Trees.{Node, forget_item, forget_items, item_value, items_value, cons, key_of, nil, node_of, number, single, string}
-use Rattle.read_items.specs.Context.{PartsFit, PoolFits, context_of, part_of, parts_of, plain_words}
+use Rattle.read_items.specs.Context.{PartsFit, PoolFits, context_of, parts_of, plain_words}
+use Rattle.cursor.specs.Reads.{part_of}
 use Rattle.read_values.specs.Did.{Fit, context}
 use Rattle.read_values.specs.State.{state_of}
 use Rattle.read_values.specs.Under.{chunk_row, field_row}

@@ -12,13 +12,13 @@ use Rattle.payload.specs.Rows.{row_table, span_table}
 use Rattle.payload.specs.Tables.{span_words}
 use Rattle.payload.specs.Trees.{Node, cons, nil, single}
 use Rattle.key_test.specs.Told.{Told}
-use Rattle.read_values.specs.Did.{many_trees, one_tree, Fit, Ran, Did}
+use Rattle.refusal.specs.declared.Refusal.{Refusal}
+use Rattle.std.specs.Prelude.{Ok, Err}
+use Rattle.read_values.specs.Did.{many_trees, one_tree, Fit, Ran, Did, Step}
 use Rattle.read_values.specs.State.{state_of}
 use Rattle.read_values.specs.Laws.Did.{ran_of, no_of, ran_more}
 use Rattle.payload.specs.declared.Capacities.{Capacities}
 use Rattle.read_values.specs.declared.State.{State}
-use Rattle.read_values.specs.declared.Step.{Step}
-use Rattle.read_values.specs.declared.Step.TheVariants.{Done, Refused}
 
 -- the tables after a part that was read fit where they fitted before it
 pub fit_next :
@@ -30,7 +30,7 @@ fit_next f a b c l l' =
 
 -- no tree: nothing is stored
 pub did_none : {capacities : Capacities} {p rows spans : List ℕ} {now : State} → Fit capacities p rows spans now →
-    Did many_trees capacities p rows rows spans spans now.rows now.spans (Done now) (pure nil (state_of p now))
+    Did many_trees capacities p rows rows spans spans now.rows now.spans (Ok now) (pure nil (state_of p now))
 unfolding pure row_table span_table span_words Told
 did_none {rows = rows} {spans = spans} f = record {
   out = (
@@ -65,16 +65,16 @@ step_did :
     Did many_trees capacities p rows' c spans' c' next.rows next.spans r (read_many n rd (state_of p next)) →
     Did many_trees capacities p rows c spans c' now.rows now.spans r (read_many (suc n) rd (state_of p now))
 unfolding read_many ◌>>=◌ and_then pure
-step_did capacities p rows rows' spans spans' rd now next n t c c' (Refused m q) g d = record { out = rw (g.is, d.out) }
-step_did capacities p rows rows' spans spans' rd now next n t c c' (Done z) g d =
+step_did capacities p rows rows' spans spans' rd now next n t c c' (Err e) g d = record { out = rw (g.is, d.out) }
+step_did capacities p rows rows' spans spans' rd now next n t c c' (Ok z) g d =
     record { out = (cons t d.out.0, ran_more g d.out.1 _ (rw (g.is, d.out.1.is))) }
 
 -- one tree alone
 pub did_one : {capacities : Capacities} {p a b a' b' : List ℕ} {i j : ℕ} (rd : Reader (Node Part)) (s : reader.State) (r : Step) →
     Did one_tree capacities p a b a' b' i j r (rd s) → Did many_trees capacities p a b a' b' i j r (read_many 1 rd s)
 unfolding read_many ◌>>=◌ and_then pure single cons
-did_one rd s (Refused m q) d = record { out = rw d.out }
-did_one rd s (Done z) d =
+did_one rd s (Err e) d = record { out = rw d.out }
+did_one rd s (Ok z) d =
     let g = d.out.1 in
     record {
       out = (
@@ -96,7 +96,7 @@ did_one rd s (Done z) d =
 -- none or one
 pub did_gap_none :
     {capacities : Capacities} {p rows spans : List ℕ} {now : State} (rd : Reader (Node Part)) {gap : ℕ} → gap ≡ 0 → Fit capacities p rows spans now →
-    Did many_trees capacities p rows rows spans spans now.rows now.spans (Done now) (read_many gap rd (state_of p now))
+    Did many_trees capacities p rows rows spans spans now.rows now.spans (Ok now) (read_many gap rd (state_of p now))
 unfolding read_many
 did_gap_none rd e f = rw e (did_none f)
 
@@ -116,7 +116,7 @@ module _ {capacities : Capacities} {p : List ℕ} {rows₀ spans₀ : List ℕ} 
   }
 
   pub sofar_next : {rows rows' spans spans' : List ℕ} {now next : State} {k : ℕ} {r : Step} →
-      (s : Sofar capacities p rows₀ rows spans₀ spans rd st now count k) → k < count → r ≡ Done next →
+      (s : Sofar capacities p rows₀ rows spans₀ spans rd st now count k) → k < count → r ≡ Ok next →
       Did one_tree capacities p rows rows' spans spans' now.rows now.spans r (rd (state_of p now)) →
       length rows' ≡ length rows → length spans' ≡ length spans → Sofar capacities p rows₀ rows' spans₀ spans' rd st next count (k + 1)
   sofar_next {rows = rows} {rows' = rows'} {spans = spans} {spans' = spans'} {now = now} {next = next} {k = k} s h e d l l' =
@@ -133,17 +133,17 @@ module _ {capacities : Capacities} {p : List ℕ} {rows₀ spans₀ : List ℕ} 
 
   pub sofar_end :
       {rows spans : List ℕ} {now : State} {k : ℕ} → Sofar capacities p rows₀ rows spans₀ spans rd st now count k → count ≤ k →
-      Did many_trees capacities p rows₀ rows spans₀ spans st.rows st.spans (Done now) (read_many count rd (state_of p st))
+      Did many_trees capacities p rows₀ rows spans₀ spans st.rows st.spans (Ok now) (read_many count rd (state_of p st))
   unfolding read_many
   sofar_end {rows = rows} {spans = spans} {now = now} {k = k} s h =
       let z : count - k ≡ 0 = omega arith in
-      s.rest rows spans (Done now) (rw z (did_none s.fit))
+      s.rest rows spans (Ok now) (rw z (did_none s.fit))
 
-  pub sofar_stop : {rows rows' spans spans' : List ℕ} {now : State} {k n q : ℕ} {r : Step} →
-      (s : Sofar capacities p rows₀ rows spans₀ spans rd st now count k) → k < count → r ≡ Refused n q →
+  pub sofar_stop : {rows rows' spans spans' : List ℕ} {now : State} {k : ℕ} {e : Refusal} {r : Step} →
+      (s : Sofar capacities p rows₀ rows spans₀ spans rd st now count k) → k < count → r ≡ Err e →
       Did one_tree capacities p rows rows' spans spans' now.rows now.spans r (rd (state_of p now)) →
-      Did many_trees capacities p rows₀ rows' spans₀ spans' st.rows st.spans (Refused n q) (read_many count rd (state_of p st))
+      Did many_trees capacities p rows₀ rows' spans₀ spans' st.rows st.spans (Err e) (read_many count rd (state_of p st))
   unfolding read_many ◌>>=◌ and_then
-  sofar_stop {rows' = rows'} {spans' = spans'} {k = k} {n = n} {q = q} s h e d =
+  sofar_stop {rows' = rows'} {spans' = spans'} {k = k} {e = a} s h e d =
       let z : count - k ≡ suc (count - (k + 1)) = omega arith in
-      s.rest rows' spans' (Refused n q) (rw z (record { out = rw (no_of e d) }))
+      s.rest rows' spans' (Err a) (rw z (record { out = rw (no_of e d) }))

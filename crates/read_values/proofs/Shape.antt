@@ -20,7 +20,7 @@ use Rattle.payload.specs.Trees.{Item, Node, Trees, cons, nil, node_of}
 use Rattle.payload.specs.Choice.{when◌then◌else◌}
 use Rattle.row_layout.specs.Under.{count_in, rows_under}
 use Rattle.read_heads.specs.Heads.{Heading, heading, read_count, read_head, read_kids_count}
-use Rattle.read_items.specs.Reads.{state_at}
+use Rattle.cursor.specs.Reads.{state_at}
 use Rattle.read_values.specs.Entries.{read_entries}
 use Rattle.read_values.specs.Laws.Entries.{keys_are, pairs_are}
 use Rattle.read_values.specs.State.{state_of}

@@ -17,88 +17,110 @@ use Rattle.payload.specs.Shapes.{ItemKind, Shape, kinds_of, shape, values, with_
 use Rattle.payload.specs.Spans.{Span, read_code}
 use Rattle.payload.specs.Tables.{span_words}
 use Rattle.payload.specs.Trees.{Item, Node, Trees, code, cons, node_of, single}
-use Rattle.read_items.specs.Context.{context_of, part_of}
+use Rattle.refusal.specs.Number.{number}
+use Rattle.refusal.specs.declared.Refusal.{Refusal}
+use Rattle.payload.specs.declared.Extent.{Extent}
+use Rattle.read_items.specs.Context.{context_of, part_in}
 use Rattle.row_layout.specs.Under.{count_in, rows_under}
-use Rattle.read_heads.specs.Heads.{HeadOut, ReadsHead, RowRead, head_words}
-use Rattle.read_items.specs.Reads.{Reads, read, state_at, stopped}
+use Rattle.read_heads.specs.Heads.{ReadsHead, four_words, head_words, heading, read_head}
+use Rattle.cursor.specs.Reads.{Answer, Reads, read, state_at, stopped}
 use Rattle.read_heads.specs.declared.Head.{Head}
-use Rattle.read_heads.specs.declared.Head.TheVariants as head
 use Rattle.read_code.specs.CodeRead.{Accepted, CodeRead}
-use Rattle.read_code.specs.declared.CodeAt.{CodeAt}
-use Rattle.read_code.specs.declared.CodeAt.TheVariants as code_at
+use Rattle.cursor.specs.Advances.{Advances}
+use Rattle.cursor.specs.declared.Cursor.{Cursor}
+use Rattle.std.specs.Borrow.{Bor}
+use Rattle.std.specs.Prelude.{Ok, Err}
 use Rattle.key_test.specs.Told.{RowTold}
-use Rattle.read_values.specs.Did.{many_trees, one_tree, Fit, Ran, Did, context}
+use Rattle.read_values.specs.Did.{many_trees, one_tree, Fit, Ran, Did, Step, context}
 use Rattle.read_values.specs.State.{RowStored, after_row, after_spans, state_of}
 use Rattle.read_values.specs.Laws.Did.{did_node, two_runs, own_rows, own_spans, own_told, cons_rows, cons_spans, cons_told, length_span_words_lem}
 use Rattle.payload.specs.declared.Capacities.{Capacities}
 use Rattle.read_values.specs.declared.State.{State}
-use Rattle.read_values.specs.declared.Step.{Step}
-use Rattle.read_values.specs.declared.Step.TheVariants.{Done, Refused}
 use Rattle.read_values.proofs.Tags.{no_template}
 use Rattle.read_values.specs.Under.{read_under}
 use Rattle.read_values.proofs.Shape.{many_count, shape_head, under_count, under_none}
 use Rattle.read_values.proofs.Loop.{did_none}
 
----- the variant that a match found
+---- what a cursor read that was put at a place of the source
 
-module _ {p names pool : List ℕ} {i : ℕ} {sh : Shape} {r : Head} where
-  pub row_of_lem : {a b c d n next : ℕ} → r ≡ head.Row a b c d n next → ReadsHead p names pool i sh r → RowRead p names pool i sh a b c d n next
-  row_of_lem e g = (rw e at g).out
+-- a head that was read at a place
+pub record HeadRead (p names pool : List ℕ) (at : ℕ) (sh : Shape) (h : Head) (next : ℕ) : Type 0 where
+  pub items : List (Item Part)
+  pub is : (cs : Capacities) → Reads p at (read_head (context_of cs p names pool) sh) (read (heading items h.count) next)
+  pub words : head_words sh items h.count ≡ four_words h
+  pub told : count_in sh (four_words h) ≡ h.count
+  pub no_spans : items_spans items ≡ []
 
-  pub no_row : {n q : ℕ} → r ≡ head.Refused n q → ReadsHead p names pool i sh r → HeadOut p names pool i sh (head.Refused n q)
-  no_row e g = (rw e at g).out
+-- no head was read there
+abbrev pub NoHead : List ℕ → List ℕ → List ℕ → ℕ → Shape → Refusal → Type 0
+NoHead p names pool at sh e = (cs : Capacities) → Reads p at (read_head (context_of cs p names pool) sh) (stopped (number e.reason) e.place)
 
-module _ {p spans spans' : List ℕ} {used most i : ℕ} {r : CodeAt} where
-  pub code_of : {o n next : ℕ} → r ≡ code_at.Code o n next → CodeRead p spans spans' used most i r → Accepted p spans spans' used most i o n next
-  code_of e g = (rw e at g).outcome
+module _ {c c' : Cursor} {source : Bor (List ℕ)} {at : ℕ} (its : c.payload ≡ source) (there : c.at ≡ at) where
+  pub head_read : {names pool : List ℕ} {sh : Shape} {h : Head} → ReadsHead c c' names pool sh (Ok h) → HeadRead source.now names pool at sh h c'.at
+  head_read g = record {
+    items = g.items;
+    is = λ cs. rw (its, there) at (g.is cs).reads;
+    words = g.head.words;
+    told = g.head.told;
+    no_spans = g.head.no_spans;
+  }
 
-  pub no_code_of :
-      {n q : ℕ} → r ≡ code_at.Refused n q → CodeRead p spans spans' used most i r → (rows : ℕ) → read_code most (state_at p i rows used) ≡ refused n q
-  no_code_of e g = (rw e at g).outcome
+  pub no_head_read : {names pool : List ℕ} {sh : Shape} {e : Refusal} → ReadsHead c c' names pool sh (Err e) → NoHead source.now names pool at sh e
+  no_head_read g cs = rw (its, there) at (g.is cs).reads
+
+  pub code_of : {spans spans' : List ℕ} {used most : ℕ} {x : Extent} → CodeRead c c' spans spans' used most (Ok x) → Accepted source.now spans spans' used most at x c'.at
+  code_of g = rw (its, there) at g.outcome
+
+  pub no_code_of : {spans spans' : List ℕ} {used most : ℕ} {e : Refusal} → CodeRead c c' spans spans' used most (Err e)
+      → (rows : ℕ) → read_code most (state_at source.now at rows used) ≡ refused (number e.reason) e.place
+  no_code_of g = rw (its, there) at g.outcome
+
+pub read_there : {A : Type 0} {c c' : Cursor} {source : Bor (List ℕ)} {reader : Reader A} {x : Answer A} → c.payload ≡ source → Advances c c' reader x → Reads source.now c.at reader x
+read_there its g = rw its at g.reads
 
 ---- a row of a shape: its head is read, its words stored, and what is under it read
 
 -- the row's words, and that they tell the count
 pub row_told :
-    (t : ℕ) (sh : Shape) → shape t ≡ sh → (is : List (Item Part)) (n m : ℕ) {a b c d : ℕ} → head_words sh is n ≡ a ∷ b ∷ c ∷ d ∷ [] →
-    count_in sh (a ∷ b ∷ c ∷ d ∷ []) ≡ n → rows_under sh n ≡ m → (row_words t is m ≡ t ∷ a ∷ b ∷ c ∷ d ∷ []) × RowTold t is m
+    (t : ℕ) (sh : Shape) → shape t ≡ sh → (is : List (Item Part)) (h : Head) (m : ℕ) → head_words sh is h.count ≡ four_words h →
+    count_in sh (four_words h) ≡ h.count → rows_under sh h.count ≡ m → (row_words t is m ≡ t ∷ four_words h) × RowTold t is m
 unfolding row_words head_words
-row_told t sh e is n m {a} {b} {c} {d} w k h =
-    let ws : row_words t is m ≡ t ∷ a ∷ b ∷ c ∷ d ∷ [] = rw (e, ← h) (ap (λ (l : List ℕ). t ∷ l) w) in
-    (ws, record { a = a; b = b; c = c; d = d; words = ws; told = rw (e, k) h })
+row_told t sh e is h m w k u =
+    let ws : row_words t is m ≡ t ∷ four_words h = rw (e, ← u) (ap (λ (l : List ℕ). t ∷ l) w) in
+    (ws, record { a = h.a; b = h.b; c = h.c; d = h.d; words = ws; told = rw (e, k) u })
 
 module _ (capacities : Capacities) (p names pool : List ℕ) (rv : Reader (Node Part)) (t : ℕ) (sh : Shape) (its_shape : shape t ≡ sh) (plain : no_template sh ≡ true) where
-  pub did_shape : (i : ℕ) {a b c a' c' : List ℕ} {state after : State} {x y z w n next : ℕ} {r : Step} →
-      RowRead p names pool i sh x y z w n next → RowStored a b (t ∷ x ∷ y ∷ z ∷ w ∷ []) state next after →
-      Did many_trees capacities p b c a' c' after.rows after.spans r (read_under (context capacities p names pool) rv sh n (state_of p after)) →
+  pub did_shape : (i : ℕ) {a b c a' c' : List ℕ} {state after : State} {f : Head} {next : ℕ} {r : Step} →
+      HeadRead p names pool i sh f next → RowStored a b (t ∷ four_words f) state next after →
+      Did many_trees capacities p b c a' c' after.rows after.spans r (read_under (context capacities p names pool) rv sh f.count (state_of p after)) →
       Did one_tree capacities p a c a' c' state.rows state.spans r
       (read_shape (context capacities p names pool) rv t sh (state_at p i (state.rows + 1) state.spans))
   unfolding and_then ◌>>=◌ span_words
-  did_shape i {a' = a'} {state = state} {x = x} {y = y} {z = z} {w = w} {n = n} {next = next} h stored d =
+  did_shape i {a' = a'} {state = state} {f = f} {next = next} h stored d =
       rw (
         shape_head (context capacities p names pool) rv t sh (state_at p i (state.rows + 1) state.spans) plain,
         (h.is capacities).is (state.rows + 1) state.spans,
       )
-      (did_node t h.items (t ∷ x ∷ y ∷ z ∷ w ∷ []) [] stored.words refl (sym (put_none a' (2 * state.spans))) (omega arith)
+      (did_node t h.items (t ∷ four_words f) [] stored.words refl (sym (put_none a' (2 * state.spans))) (omega arith)
       (ap span_words (sym h.no_spans))
       (λ ts s e.
-      row_told t sh its_shape h.items n (root_count ts) h.words h.told
-      (under_count (context capacities p names pool) rv sh n (state_of p (after_row next state)) ts s plain e)) (rw stored.after at d))
+      row_told t sh its_shape h.items f (root_count ts) h.words h.told
+      (under_count (context capacities p names pool) rv sh f.count (state_of p (after_row next state)) ts s plain e)) (rw stored.after at d))
 
-  pub no_shape : (own sp i : ℕ) {n q : ℕ} → HeadOut p names pool i sh (head.Refused n q) →
-      read_shape (context capacities p names pool) rv t sh (state_at p i (own + 1) sp) ≡ refused n q
+  pub no_shape : (own sp i : ℕ) (e : Refusal) → NoHead p names pool i sh e →
+      read_shape (context capacities p names pool) rv t sh (state_at p i (own + 1) sp) ≡ refused (number e.reason) e.place
   unfolding and_then
-  no_shape own sp i h = rw (shape_head (context capacities p names pool) rv t sh (state_at p i (own + 1) sp) plain, (h capacities).is (own + 1) sp)
+  no_shape own sp i e h = rw (shape_head (context capacities p names pool) rv t sh (state_at p i (own + 1) sp) plain, (h capacities).is (own + 1) sp)
 
   -- nothing follows the head
   pub did_leaf :
-      (i : ℕ) {a b a' : List ℕ} {state after : State} {x y z w n next : ℕ} → RowRead p names pool i sh x y z w n next →
-      RowStored a b (t ∷ x ∷ y ∷ z ∷ w ∷ []) state next after → n ≡ 0 → Fit capacities p b a' after →
-      Did one_tree capacities p a b a' a' state.rows state.spans (Done after)
+      (i : ℕ) {a b a' : List ℕ} {state after : State} {f : Head} {next : ℕ} → HeadRead p names pool i sh f next →
+      RowStored a b (t ∷ four_words f) state next after → f.count ≡ 0 → Fit capacities p b a' after →
+      Did one_tree capacities p a b a' a' state.rows state.spans (Ok after)
       (read_shape (context capacities p names pool) rv t sh (state_at p i (state.rows + 1) state.spans))
   unfolding pure
-  did_leaf i {after = after} h stored z f =
-      did_shape i h stored (rw (z, under_none (context capacities p names pool) rv sh (state_of p after)) (did_none f))
+  did_leaf i {after = after} h stored z fit =
+      did_shape i h stored (rw (z, under_none (context capacities p names pool) rv sh (state_of p after)) (did_none fit))
 
 ---- a closure's row is stored once its template stands after it
 
@@ -123,8 +145,8 @@ pub did_closure :
     Did many_trees capacities p c e b' e' mid.rows mid.spans r y →
     Did one_tree capacities p a e a' e' i j r (and_then y (λ ts. pure (node_of t is (cons f ts))))
 unfolding and_then pure
-did_closure {r = Refused n q} t is row g w n5 ns h d = record { out = rw d.out }
-did_closure {p = p} {a = a} {b = b} {c = c} {e = e} {a' = a'} {b' = b'} {e' = e'} {i = i} {j = j} {mid = mid} {r = Done s} {f = f} t is row g w n5 ns h d =
+did_closure {r = Err x} t is row g w n5 ns h d = record { out = rw d.out }
+did_closure {p = p} {a = a} {b = b} {c = c} {e = e} {a' = a'} {b' = b'} {e' = e'} {i = i} {j = j} {mid = mid} {r = Ok s} {f = f} t is row g w n5 ns h d =
     let ts = d.out.0 in
     let k = d.out.1 in
     let m = h ts (state_of p s) k.is in
@@ -171,19 +193,19 @@ first_tag a b i t w h = ap (λ (l : List ℕ). get_or l i 0) w ∙ get_or_put_fi
 
 ---- a chunk row: its code and spans, its count, its words, its constants
 
-chunk_spans : (p : List ℕ) (o n : ℕ) (ss : List Span) → span_words ss ≡ span_words (items_spans (code (part_of p o n) ss ∷ []))
+chunk_spans : (p : List ℕ) (x : Extent) (ss : List Span) → span_words ss ≡ span_words (items_spans (code (part_in p x) ss ∷ []))
 unfolding items_spans
-chunk_spans p o n ss = ap span_words (sym (append-nil ss))
+chunk_spans p x ss = ap span_words (sym (append-nil ss))
 
 shape_chunk : shape 32 ≡ with_kids (ItemKind.code ∷ []) values
 unfolding shape when◌then◌else◌
 shape_chunk = refl
 
 chunk_words :
-    (p : List ℕ) (o n : ℕ) (ss : List Span) (m : ℕ) → o + n ≤ length p →
-    head_words (with_kids (ItemKind.code ∷ []) values) (code (part_of p o n) ss ∷ []) m ≡ o ∷ n ∷ m ∷ 0 ∷ []
+    (p : List ℕ) (x : Extent) (ss : List Span) (m : ℕ) → x.offset + x.length ≤ length p →
+    head_words (with_kids (ItemKind.code ∷ []) values) (code (part_in p x) ss ∷ []) m ≡ x.offset ∷ x.length ∷ m ∷ 0 ∷ []
 unfolding head_words rows_under items_words item_words part_words count_words kids_count_words unused_words kinds_width kind_width kinds_of
-chunk_words p o n ss m h = let l : length (take n (drop o p)) ≡ n = simp (length-take, length-drop) (omega arith) in rw l
+chunk_words p x ss m h = let l : length (take x.length (drop x.offset p)) ≡ x.length = simp (length-take, length-drop) (omega arith) in rw l
 
 chunk_told : (o n m : ℕ) → count_in (with_kids (ItemKind.code ∷ []) values) (o ∷ n ∷ m ∷ 0 ∷ []) ≡ m
 unfolding count_in kinds_width kind_width
@@ -198,29 +220,30 @@ module _ (capacities : Capacities) (p names pool : List ℕ) (rv : Reader (Node 
   from_row = state_at p state.at (state.rows + 1) state.spans
 
   pub no_code_lem :
-      {n q : ℕ} → ((rows : ℕ) → read_code capacities.spans (state_at p state.at rows state.spans) ≡ refused n q) →
-      read_shape (context capacities p names pool) rv 32 (with_kids (ItemKind.code ∷ []) values) from_row ≡ refused n q
+      (a : Refusal) → ((rows : ℕ) → read_code capacities.spans (state_at p state.at rows state.spans) ≡ refused (number a.reason) a.place) →
+      read_shape (context capacities p names pool) rv 32 (with_kids (ItemKind.code ∷ []) values) from_row ≡ refused (number a.reason) a.place
   unfolding read_shape read_items read_item ◌>>=◌ and_then context_of
-  no_code_lem e = rw (e (state.rows + 1))
+  no_code_lem a e = rw (e (state.rows + 1))
 
-  module _ {a' b' : List ℕ} {o n mid : ℕ} (g : Accepted p a' b' state.spans capacities.spans state.at o n mid) where
+  module _ {a' b' : List ℕ} {x : Extent} {mid : ℕ} (g : Accepted p a' b' state.spans capacities.spans state.at x mid) where
     pub no_chunk :
         {m q : ℕ} → Reads p mid varint (stopped m q) →
         read_shape (context capacities p names pool) rv 32 (with_kids (ItemKind.code ∷ []) values) from_row ≡ refused m q
     unfolding read_shape read_items read_item read_kids ◌>>=◌ and_then pure context_of
-    no_chunk e = rw (g.is (state.rows + 1), e.is (state.rows + 1) (state.spans + n))
+    no_chunk e = rw (g.is (state.rows + 1), e.is (state.rows + 1) (state.spans + x.length))
 
     pub did_chunk :
         {a b c c' : List ℕ} {after all : State} {m next : ℕ} {r : Step} → Reads p mid varint (read m next) →
-        RowStored a b (32 ∷ o ∷ n ∷ m ∷ 0 ∷ []) state next after → all ≡ after_spans n after →
+        RowStored a b (32 ∷ x.offset ∷ x.length ∷ m ∷ 0 ∷ []) state next after → all ≡ after_spans x.length after →
         Did many_trees capacities p b c b' c' all.rows all.spans r (read_many m rv (state_of p all)) →
         Did one_tree capacities p a c a' c' state.rows state.spans r
         (read_shape (context capacities p names pool) rv 32 (with_kids (ItemKind.code ∷ []) values) from_row)
     unfolding read_shape read_items read_item read_kids ◌>>=◌ and_then pure context_of
     did_chunk {m = m} {next = next} e stored v d =
-        rw (g.is (state.rows + 1), e.is (state.rows + 1) (state.spans + n))
-        (did_node 32 (code (part_of p o n) g.spans ∷ []) (32 ∷ o ∷ n ∷ m ∷ 0 ∷ []) (span_words g.spans) stored.words refl g.stored
-        (omega (arith, g.each, length_span_words_lem g.spans)) (chunk_spans p o n g.spans)
+        rw (g.is (state.rows + 1), e.is (state.rows + 1) (state.spans + x.length))
+        (did_node 32 (code (part_in p x) g.spans ∷ []) (32 ∷ x.offset ∷ x.length ∷ m ∷ 0 ∷ []) (span_words g.spans) stored.words refl g.stored
+        (omega (arith, g.each, length_span_words_lem g.spans)) (chunk_spans p x g.spans)
         (λ ts z q.
-        row_told 32 (with_kids (ItemKind.code ∷ []) values) shape_chunk _ m (root_count ts) (chunk_words p o n g.spans m g.code_inside) (chunk_told o n m)
-        (chunk_under m ∙ sym (many_count rv m _ ts z q))) (rw (v ∙ ap (after_spans n) stored.after) at d))
+        row_told 32 (with_kids (ItemKind.code ∷ []) values) shape_chunk _ (record { a = x.offset; b = x.length; c = m; d = 0; count = m }) (root_count ts)
+        (chunk_words p x g.spans m g.code_inside) (chunk_told x.offset x.length m)
+        (chunk_under m ∙ sym (many_count rv m _ ts z q))) (rw (v ∙ ap (after_spans x.length) stored.after) at d))

@@ -1,5 +1,6 @@
 -- What a part of the reader did: its answer is the definition's, and the lent tables hold what was read.
 use Rattle.std.specs.Prelude.{List, ◌≡◌, ℕ, ◌+◌, ◌*◌, ◌≤◌, length}
+use Rattle.std.specs.Prelude as std
 use Rattle.slices.specs.Put.{put}
 use Rattle.payload.specs.Reader.{Part, Reader, Result, ok, refused}
 use Rattle.payload.specs.Reading.{Context}
@@ -8,11 +9,12 @@ use Rattle.payload.specs.Rows.{row_table, row_width, span_table}
 use Rattle.payload.specs.Tables.{limits, span_words}
 use Rattle.payload.specs.Trees.{Node, Trees, single}
 use Rattle.read_items.specs.Context.{context_of}
+use Rattle.refusal.specs.Number.{number}
+use Rattle.refusal.specs.declared.Refusal.{Refusal}
 use Rattle.key_test.specs.Told.{Told}
 use Rattle.read_values.specs.State.{state_of}
+use Rattle.read_values.specs.declared.sources.Source.{Source}
 use Rattle.read_values.specs.declared.State.{State}
-use Rattle.read_values.specs.declared.Step.{Step}
-use Rattle.read_values.specs.declared.Step.TheVariants.{Done, Refused}
 
 abbrev pub context : Capacities → List ℕ → List ℕ → List ℕ → Context
 context l p names pool = context_of l p names pool
@@ -44,6 +46,10 @@ pub record Fit (capacities : Capacities) (p rows spans : List ℕ) (s : State) :
   pub few : capacities.rows ≤ limits.rows
   pub few_spans : capacities.spans ≤ limits.spans
 
+-- the state after a part of the reader, or its refusal
+abbrev pub Step : Type 0
+Step = std.Result State Refusal
+
 -- x is t and the state s; t's words were stored into rows from row i on and into spans from span j on, and nothing else changed
 pub record Ran {A : Type 0} (view : View A) (capacities : Capacities) (p rows rows' spans spans' : List ℕ) (i j : ℕ) (s : State) (t : A) (x : Result A) : Type 0 where
   pub is : x ≡ ok t (state_of p s)
@@ -57,14 +63,20 @@ pub record Ran {A : Type 0} (view : View A) (capacities : Capacities) (p rows ro
   pub told : Told (view.trees_of t)
 
 abbrev pub Out : {A : Type 0} → View A → Capacities → List ℕ → List ℕ → List ℕ → List ℕ → List ℕ → ℕ → ℕ → Step → Result A → Type 0
-Out {A} view capacities p rows rows' spans spans' i j (Done s) x = (t : A) × Ran view capacities p rows rows' spans spans' i j s t x
-Out {A} view capacities p rows rows' spans spans' i j (Refused n q) x = x ≡ refused n q
+Out {A} view capacities p rows rows' spans spans' i j (std.Ok s) x = (t : A) × Ran view capacities p rows rows' spans spans' i j s t x
+Out {A} view capacities p rows rows' spans spans' i j (std.Err e) x = x ≡ refused (number e.reason) e.place
 
 -- The contract of a part of the reader. After a refusal nothing is said of the tables.
 pub record Did {A : Type 0} (view : View A) (capacities : Capacities) (p rows rows' spans spans' : List ℕ) (i j : ℕ) (r : Step) (x : Result A) : Type 0 where
   pub out : Out view capacities p rows rows' spans spans' i j r x
 
--- r is what a reader of the definition, with these capacities, names and pool, does from a state of the code on
-abbrev pub Does : {A : Type 0} → View A → Capacities → List ℕ → List ℕ → List ℕ → List ℕ → List ℕ → List ℕ → List ℕ → State → Step → (Context → Reader A) → Type 0
-Does view capacities p names pool rows rows' spans spans' s r reader =
-    Did view capacities p rows rows' spans spans' s.rows s.spans r (reader (context capacities p names pool) (state_of p s))
+-- a source as the definition's context
+abbrev pub context_in : Source → Context
+context_in e = context e.capacities e.payload.now e.names.now e.pool.now
+
+abbrev pub Fits : Source → List ℕ → List ℕ → State → Type 0
+Fits e rows spans s = Fit e.capacities e.payload.now rows spans s
+
+-- r is what a reader of the definition does with a source from a state of the code on
+abbrev pub Does : {A : Type 0} → View A → Source → List ℕ → List ℕ → List ℕ → List ℕ → State → Step → (Context → Reader A) → Type 0
+Does view e rows rows' spans spans' s r reader = Did view e.capacities e.payload.now rows rows' spans spans' s.rows s.spans r (reader (context_in e) (state_of e.payload.now s))

@@ -1,18 +1,16 @@
 -- What reading the outer chunk leaves in the lent tables: its words from their begin on, or zeros at a refusal.
-use Rattle.std.specs.Prelude.{List, ◌≡◌, ℕ, length}
+use Rattle.std.specs.Prelude.{List, ◌≡◌, ℕ, length, Ok, Err}
 use Rattle.slices.specs.Zeros.{zeros}
 use Rattle.payload.specs.Reading.{read_chunk}
-use Rattle.payload.specs.declared.Capacities.{Capacities}
-use Rattle.read_values.specs.Did.{Does, one_tree}
+use Rattle.read_values.specs.declared.sources.Source.{Source}
+use Rattle.read_values.specs.Did.{Does, Step, one_tree}
 use Rattle.read_values.specs.State.{start_at}
-use Rattle.read_values.specs.declared.Step.{Step}
-use Rattle.read_values.specs.declared.Step.TheVariants.{Done, Refused}
 
 abbrev pub Cleared : List ℕ → List ℕ → List ℕ → List ℕ → Step → Type 0
-Cleared rows rows' spans spans' (Done s) = Unit {0}
-Cleared rows rows' spans spans' (Refused n q) = (rows' ≡ zeros (length rows)) × (spans' ≡ zeros (length spans))
+Cleared rows rows' spans spans' (Ok s) = Unit {0}
+Cleared rows rows' spans spans' (Err e) = (rows' ≡ zeros (length rows)) × (spans' ≡ zeros (length spans))
 
--- r is the outer chunk at a place of p; its words are put into the tables where it is read, and a refusal leaves zeros alone
-pub record OuterRead (capacities : Capacities) (p names pool rows rows' spans spans' : List ℕ) (at : ℕ) (r : Step) : Type 0 where
-  pub did : Does one_tree capacities p names pool rows rows' spans spans' (start_at at) r read_chunk
+-- r is the outer chunk at a place of the payload; its words are put into the tables where it is read, and a refusal leaves zeros alone
+pub record OuterRead (e : Source) (rows rows' spans spans' : List ℕ) (at : ℕ) (r : Step) : Type 0 where
+  pub did : Does one_tree e rows rows' spans spans' (start_at at) r read_chunk
   pub cleared : Cleared rows rows' spans spans' r

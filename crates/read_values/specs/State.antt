@@ -3,7 +3,7 @@ use Rattle.std.specs.Prelude.{List, ◌≡◌, ℕ, ◌+◌, ◌*◌}
 use Rattle.slices.specs.Put.{put}
 use Rattle.payload.specs.Reader as reader
 use Rattle.payload.specs.Rows.{row_width}
-use Rattle.read_items.specs.Reads.{state_at}
+use Rattle.cursor.specs.Reads.{state_at}
 use Rattle.read_values.specs.declared.State.{State}
 
 -- the definition's state at a state of the code

@@ -1,21 +1,17 @@
 // Fields and tables of recorded files: numbers read from their bytes, put into tables, and compared with what the tables held.
 #![tactic(auto)]
 
-ghost use Rattle.std.specs.Prelude.{◌≡◌, ◌^◌, ◌≤◌, ◌<◌, length, take, drop};
-ghost use Rattle.recorded.specs.Recorded.{number_at, numbers, agrees};
+ghost use Rattle.std.specs.Prelude.{◌≡◌, ◌^◌, ◌≤◌, ◌<◌, List, ℕ, length, take, drop};
+ghost use Rattle.slices.specs.LittleEndian.{from_le_bytes};
+ghost use Rattle.recorded.specs.Recorded.{number_at, numbers_by, agrees_by};
 
 // So many bytes from a place on, or what there is of them.
 pub fn part(bytes: &[u8], from: usize, size: usize) -> &[u8]
     ensures { result.now ≡ take size (drop from bytes.now) }
 {
-    if bytes.len() <= from {
-        return &bytes[0..0];
-    }
-    if bytes.len() - from <= size {
-        return &bytes[from..];
-    }
-    let end = from + size;
-    &bytes[from..end]
+    let start = from.min(bytes.len());
+    let end = start + size.min(bytes.len() - start);
+    &bytes[start..end]
 }
 
 // The number of so many bytes at a place, the lowest first. What there is not of them counts as zeros.
@@ -28,34 +24,55 @@ pub fn number_at(bytes: &[u8], at: usize, width: usize) -> u64
     slices::word(&word, 0)
 }
 
-// Puts the recorded words into a table, as many as it has, and answers whether just they stood in it, with zeros behind them.
-pub fn words_in(recorded: &[u8], table: &mut [u64]) -> bool
-    ensures value { result ≡ agrees 8 table.old recorded.now }
-    ensures table_after { table.new ≡ numbers 8 (length table.old) recorded.now }
-{
-    let mut agrees = recorded.len() <= 8 * table.len();
-    let mut i = 0;
-    while i < table.len() {
-        let n = number_at(recorded, 8 * i, 8);
-        agrees = agrees & (table[i] == n);
-        table[i] = n;
-        i += 1;
-    }
-    agrees
+// A type of numbers that are recorded in so many bytes each.
+pub trait Number: Copy + PartialEq {
+    const WIDTH: usize;
+
+    ghost WIDTH: { ℕ };
+
+    ghost of_bytes: { List ℕ → Self };
+
+    // The first number.
+    fn first(bytes: &[u8]) -> Self
+        ensures { result ≡ of_bytes (take WIDTH bytes.now) };
 }
 
-// The same for numbers of four bytes.
-pub fn starts_in(recorded: &[u8], table: &mut [u32]) -> bool
-    ensures value { result ≡ agrees 4 table.old recorded.now }
-    ensures table_after { table.new ≡ numbers 4 (length table.old) recorded.now }
-{
-    let mut agrees = recorded.len() <= 4 * table.len();
-    let mut i = 0;
-    while i < table.len() {
-        let n = number_at(recorded, 4 * i, 4) as u32;
-        agrees = agrees & (table[i] == n);
-        table[i] = n;
-        i += 1;
+impl Number for u64 {
+    const WIDTH: usize = 8;
+
+    ghost WIDTH = { 8 };
+
+    ghost of_bytes = { from_le_bytes };
+
+    fn first(bytes: &[u8]) -> u64 {
+        number_at(bytes, 0, 8)
     }
-    agrees
+}
+
+impl Number for u32 {
+    const WIDTH: usize = 4;
+
+    ghost WIDTH = { 4 };
+
+    ghost of_bytes = { from_le_bytes };
+
+    fn first(bytes: &[u8]) -> u32 {
+        number_at(bytes, 0, 4) as u32
+    }
+}
+
+// Puts the recorded numbers into a table, as many as it has, and answers whether just they stood in it, with zeros behind them.
+pub fn numbers_in<N: Number>(recorded: &[u8], table: &mut [N]) -> bool
+    ensures value { result ≡ agrees_by N.eq N.of_bytes N.WIDTH table.old recorded.now }
+    ensures table_after { table.new ≡ numbers_by N.of_bytes N.WIDTH (length table.old) recorded.now }
+{
+    let mut rest = recorded;
+    let mut agrees = true;
+    for number in table.iter_mut() {
+        let n = N::first(rest);
+        agrees &= *number == n;
+        *number = n;
+        rest = &rest[N::WIDTH.min(rest.len())..];
+    }
+    agrees & rest.is_empty()
 }

@@ -2,7 +2,8 @@
 // 01 and the Rust. What the replayed calls promise, and what a field or a table of a record says, is in the contracts of their own crates.
 #![tactic(auto)]
 
-ghost use Rattle.std.specs.Prelude.{◌+◌, ◌≤◌, ◌<◌};
+ghost use Rattle.std.specs.Prelude.{◌+◌, ◌≤◌, ◌<◌, length};
+ghost use Rattle.std.specs.Option.{IfSome};
 
 mod leaves;
 mod payloads;
@@ -31,14 +32,14 @@ fn u16_at(bytes: &[u8], at: usize) -> usize
     recorded::number_at(bytes, at, 2) as usize
 }
 
-// Where the recorded words end that stand in a table, with zeros behind them; 0 where others stand there, or where `at` is 0, since something before
-// them differs. The table holds what is recorded afterwards.
-fn words_end(records: &[u8], at: usize, size: usize, table: &mut [u64]) -> usize
+// Where the recorded words end that stand in a table, with zeros behind them; `None` where others stand there. The table holds what is recorded
+// afterwards.
+fn words_end(records: &[u8], at: usize, size: usize, table: &mut [u64]) -> Option<usize>
     requires { (at < 0x1000_0000) × (size < 0x100_0000) }
-    ensures { result ≤ at + size }
+    ensures { IfSome result (λ end. end ≤ at + size) }
 {
-    let agrees = recorded::words_in(recorded::part(records, at, size), table);
-    if (at != 0) & agrees { at + size } else { 0 }
+    let agrees = recorded::numbers_in(recorded::part(records, at, size), table);
+    agrees.then_some(at + size)
 }
 
 // Whether an output holds the recorded bytes, and nothing but this one behind them.
@@ -55,75 +56,85 @@ fn output_agrees(out: &[u8], recorded: &[u8], rest: u8) -> bool {
     slices::equal(out, &expected[..room])
 }
 
-// A program written, or a payload read or checked, by the letter of the file.
-fn called(
-    letter: u8,
-    records: &[u8],
-    rows: &mut [u64],
-    spans: &mut [u64],
-    starts: &mut [u32],
-    pool: &mut [u64],
-) -> usize {
-    if letter == b'w' {
-        return programs::written(records, rows, spans, starts, pool);
+// The tables that a record lends.
+#[derive(Drop)]
+struct LentTables<'a> {
+    rows: &'a mut [u64],
+    spans: &'a mut [u64],
+    starts: &'a mut [u32],
+    pool: &'a mut [u64],
+}
+
+// What is done with the lent tables.
+#[derive(Clone, Copy)]
+enum Call {
+    Read,
+    Check,
+    Write,
+}
+
+// A program written, or a payload read or checked.
+fn called(call: Call, records: &[u8], mut tables: LentTables<'_>) -> Option<usize> {
+    match call {
+        Call::Read => {
+            let answer = payloads::read(records, &mut tables);
+            payloads::agreed(records, answer, &mut tables)
+        }
+        Call::Check => {
+            let answer = payloads::checked(records, &mut tables);
+            payloads::agreed(records, answer, &mut tables)
+        }
+        Call::Write => programs::written(records, tables),
     }
-    let answer = payloads::answer_of(letter == b'c', records, rows, spans, starts, pool);
-    payloads::agreed(records, answer, rows, spans, starts, pool)
 }
 
 // Lends the front of each table, as many words as the record says in the fields from `at` on. Ones stand in them, so that a word which a call should
 // clear and does not is seen.
-fn lent(letter: u8, records: &[u8], at: usize) -> usize
+fn lent(call: Call, records: &[u8], at: usize) -> Option<usize>
     requires { at < 8 }
 {
     let r = u16_at(records, at);
     let s = u16_at(records, at + 2);
     let t = u16_at(records, at + 4);
     let p = u16_at(records, at + 6);
-    if ROWS < r {
-        return 0;
-    }
-    if SPANS < s {
-        return 0;
-    }
-    if STARTS < t {
-        return 0;
-    }
-    if POOL < p {
-        return 0;
-    }
     let mut rows = [1u64; ROWS];
     let mut spans = [1u64; SPANS];
     let mut starts = [1u32; STARTS];
     let mut pool = [1u64; POOL];
-    called(
-        letter,
-        records,
-        &mut rows[..r],
-        &mut spans[..s],
-        &mut starts[..t],
-        &mut pool[..p],
-    )
+    let tables = LentTables {
+        rows: rows.get_mut(..r)?,
+        spans: spans.get_mut(..s)?,
+        starts: starts.get_mut(..t)?,
+        pool: pool.get_mut(..p)?,
+    };
+    called(call, records, tables)
 }
 
-// The length of the first record, or 0 where our answer is another. What a record that is cut short lacks counts as zeros. What the records are of
+// The length of the first record, or `None` where our answer is another. What a record that is cut short lacks counts as zeros. What the records are of
 // is told by the first and the fifth letter of the file's name.
-fn first(name: &[u8], records: &[u8]) -> usize {
-    let letter = recorded::number_at(name, 0, 1) as u8;
-    let fifth = recorded::number_at(name, 4, 1) as u8;
-    match letter {
-        b'u' => match fifth {
-            b'i' => leaves::varint_read(records, false),
-            b't' => leaves::varint_written(records),
-            _ => leaves::utf8_tested(records),
-        },
-        b'i' => leaves::varint_read(records, true),
-        b'l' => match fifth {
-            b's' => leaves::line_starts(records),
-            _ => leaves::line_col(records),
-        },
-        b'w' => lent(letter, records, 2),
-        _ => lent(letter, records, 4),
+fn first(name: &[u8], records: &[u8]) -> Option<usize> {
+    match name {
+        [b'u', _, _, _, b'i', ..] => leaves::varint_read(records, false),
+        [b'u', _, _, _, b't', ..] => leaves::varint_written(records),
+        [b'u', ..] => leaves::utf8_tested(records),
+        [b'i', ..] => leaves::varint_read(records, true),
+        [b'l', _, _, _, b's', ..] => leaves::line_starts(records),
+        [b'l', ..] => leaves::line_col(records),
+        [b'w', ..] => lent(Call::Write, records, 2),
+        [b'c', ..] => lent(Call::Check, records, 4),
+        _ => lent(Call::Read, records, 4),
+    }
+}
+
+// The same, and `None` too where the record is cut short.
+fn first_whole(name: &[u8], records: &[u8]) -> Option<usize>
+    ensures { IfSome result (λ used. (0 < used) × (used ≤ length records.now)) }
+{
+    let used = first(name, records)?;
+    if 0 < used && used <= records.len() {
+        Some(used)
+    } else {
+        None
     }
 }
 
@@ -138,14 +149,7 @@ struct Agreed {
 fn agreed_records(name: &[u8], records: &[u8]) -> Agreed {
     let mut end = 0;
     let mut count: u64 = 0;
-    while end < records.len() {
-        let used = first(name, &records[end..]);
-        if used == 0 {
-            return Agreed { end, count };
-        }
-        if records.len() - end < used {
-            return Agreed { end, count };
-        }
+    while let Some(used) = first_whole(name, &records[end..]) {
         end += used;
         count += 1;
     }

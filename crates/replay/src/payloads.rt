@@ -2,85 +2,109 @@
 // and pool; payload, names list; the nine fields u64 each; the used words of rows, spans and pool u64 each, and the used starts u32 each. All other
 // lent words are 0 after the call, whatever stood there before.
 ghost use Rattle.std.specs.Prelude.{◌<◌};
+ghost use Rattle.std.specs.Option.{IfSome};
 
-use crate::{u16_at, words_end};
-use payload::{Program, Read};
-use recorded::{part, starts_in, words_in};
+use crate::{LentTables, u16_at, words_end};
+use payload::{Counts, Program};
+use recorded::{numbers_in, part};
+use refusal::Refusal;
 
 // Whether the nine fields of an answer are those recorded.
-fn answer_agrees(answer: Read, recorded: &[u8]) -> bool {
-    match answer {
-        Read::Accepted(counts) => {
-            let mut fields = [
+fn answer_agrees(answer: Result<Counts, Refusal>, recorded: &[u8]) -> bool {
+    let mut fields = match answer {
+        Ok(counts) => {
+            let Program {
+                flag,
+                name_o,
+                name_n,
+                ..
+            } = Program::from(counts);
+            [
                 0,
                 counts.consumed as u64,
                 counts.rows as u64,
                 counts.spans as u64,
                 counts.starts as u64,
                 counts.strings as u64,
-                counts.flag,
-                counts.name_o as u64,
-                counts.name_n as u64,
-            ];
-            words_in(recorded, &mut fields)
+                flag,
+                name_o as u64,
+                name_n as u64,
+            ]
         }
-        Read::Refused(number, place) => {
-            let mut fields = [number, place as u64, 0, 0, 0, 0, 0, 0, 0];
-            words_in(recorded, &mut fields)
+        Err(refusal) => {
+            [
+                u64::from(refusal.reason),
+                refusal.place as u64,
+                0,
+                0,
+                0,
+                0,
+                0,
+                0,
+                0,
+            ]
         }
-    }
+    };
+    numbers_in(recorded, &mut fields)
 }
 
-// The answer to the payload of a record, read or checked.
-pub(crate) fn answer_of(
-    checked: bool,
-    records: &[u8],
-    rows: &mut [u64],
-    spans: &mut [u64],
-    starts: &mut [u32],
-    pool: &mut [u64],
-) -> Read {
-    let size = u16_at(records, 0);
-    let bytes = part(records, 12, size);
-    let names = part(records, 12 + size, u16_at(records, 2));
-    if checked {
-        house::house_check(bytes, names, rows, spans, starts, pool)
-    } else {
-        deserialize::deserialize_payload(bytes, names, rows, spans, starts, pool)
-    }
+// The payload of a record.
+fn payload_of(records: &[u8]) -> &[u8] {
+    part(records, 12, u16_at(records, 0))
 }
 
-// Where the nine fields end that are those of an answer, or 0 where they are not.
-fn fields_end(records: &[u8], from: usize, answer: Read) -> usize
+// The names list of a record.
+fn names_of(records: &[u8]) -> &[u8] {
+    part(records, 12 + u16_at(records, 0), u16_at(records, 2))
+}
+
+// The answer to the payload of a record that is read.
+pub(crate) fn read(records: &[u8], tables: &mut LentTables<'_>) -> Result<Counts, Refusal> {
+    deserialize::deserialize_payload(
+        payload_of(records),
+        names_of(records),
+        tables.rows,
+        tables.spans,
+        tables.starts,
+        tables.pool,
+    )
+}
+
+// The answer to the payload of a record that is checked.
+pub(crate) fn checked(records: &[u8], tables: &mut LentTables<'_>) -> Result<Counts, Refusal> {
+    house::house_check(
+        payload_of(records),
+        names_of(records),
+        tables.rows,
+        tables.spans,
+        tables.starts,
+        tables.pool,
+    )
+}
+
+// Where the nine fields end that are those of an answer, or `None` where they are not.
+fn fields_end(records: &[u8], from: usize, answer: Result<Counts, Refusal>) -> Option<usize>
     requires { from < 0x3_0000 }
-    ensures { result < 0x4_0000 }
+    ensures { IfSome result (λ end. end < 0x4_0000) }
 {
-    let agrees = answer_agrees(answer, part(records, from, 72));
-    if agrees { from + 72 } else { 0 }
+    answer_agrees(answer, part(records, from, 72)).then_some(from + 72)
 }
 
-// The end of the record, or 0 where it differs from the answer and the tables, which hold what is recorded afterwards.
+// The end of the record, or `None` where it differs from the answer and the tables.
 pub(crate) fn agreed(
     records: &[u8],
-    answer: Read,
-    rows: &mut [u64],
-    spans: &mut [u64],
-    starts: &mut [u32],
-    pool: &mut [u64],
-) -> usize {
+    answer: Result<Counts, Refusal>,
+    tables: &mut LentTables<'_>,
+) -> Option<usize> {
     let from = 12 + u16_at(records, 0) + u16_at(records, 2);
     let row_bytes = 8 * Program::ROW_WIDTH * u16_at(records, from + 16);
     let span_bytes = 16 * u16_at(records, from + 24);
     let start_bytes = 4 * u16_at(records, from + 32);
     let pool_bytes = 16 * u16_at(records, from + 40);
-    let rows_from = fields_end(records, from, answer);
-    let spans_from = words_end(records, rows_from, row_bytes, rows);
-    let pool_from = words_end(records, spans_from, span_bytes, spans);
-    let starts_from = words_end(records, pool_from, pool_bytes, pool);
-    let agrees = starts_in(part(records, starts_from, start_bytes), starts);
-    if (starts_from != 0) & agrees {
-        starts_from + start_bytes
-    } else {
-        0
-    }
+    let rows_from = fields_end(records, from, answer)?;
+    let spans_from = words_end(records, rows_from, row_bytes, tables.rows)?;
+    let pool_from = words_end(records, spans_from, span_bytes, tables.spans)?;
+    let starts_from = words_end(records, pool_from, pool_bytes, tables.pool)?;
+    let agrees = numbers_in(part(records, starts_from, start_bytes), tables.starts);
+    agrees.then_some(starts_from + start_bytes)
 }

@@ -3,9 +3,10 @@
 // each; number and length or place u64 each; every word of the pool table u64 each; the bytes written, none at a refusal.
 ghost use Rattle.std.specs.Prelude.{◌<◌};
 
-use crate::{OUTPUT, output_agrees, u16_at, words_end};
-use payload::{Program, Written};
-use recorded::{number_at, part, starts_in, words_in};
+use crate::{LentTables, OUTPUT, output_agrees, u16_at, words_end};
+use payload::Program;
+use recorded::{number_at, numbers_in, part};
+use refusal::Refusal;
 
 // What stands in the output before.
 const BEFORE: u8 = 170;
@@ -23,70 +24,54 @@ fn program_at(records: &[u8]) -> Program {
 }
 
 // Whether an answer is what is recorded: number, and length or place.
-fn answer_agrees(answer: Written, number: u64, length: u64) -> bool {
+fn answer_agrees(answer: Result<usize, Refusal>, number: u64, length: u64) -> bool {
     match answer {
-        Written::Accepted(n) => (number == 0) & (length == n as u64),
-        Written::Refused(refusal, place) => (number == refusal) & (length == place as u64),
+        Ok(n) => number == 0 && length == n as u64,
+        Err(refusal) => number == u64::from(refusal.reason) && length == refusal.place as u64,
     }
 }
 
-// The end of the record, or 0 where it differs from the answer, the pool table and the output. The answer is recorded at `from`.
-fn agreed(records: &[u8], from: usize, answer: Written, pool: &mut [u64], out: &[u8]) -> usize
+// The end of the record, or `None` where it differs from the answer, the pool table and the output. The answer is recorded at `from`.
+fn agreed(
+    records: &[u8],
+    from: usize,
+    answer: Result<usize, Refusal>,
+    pool: &mut [u64],
+    out: &[u8],
+) -> Option<usize>
     requires { from < 0x30_0000 }
 {
     let number = number_at(records, from, 8);
     let length = number_at(records, from + 8, 8);
-    let out_from = words_end(records, from + 16, 8 * u16_at(records, 8), pool);
+    let out_from = words_end(records, from + 16, 8 * u16_at(records, 8), pool)?;
     let size = if number == 0 { length as usize } else { 0 };
     if OUTPUT < size {
-        return 0;
+        return None;
     }
     let agrees = answer_agrees(answer, number, length)
-        & output_agrees(out, part(records, out_from, size), BEFORE);
-    if (out_from != 0) & agrees {
-        out_from + size
-    } else {
-        0
-    }
-}
-
-// Writes the program of a record, which stands in lent tables. The answer is recorded at `from`.
-fn agreed_write(
-    records: &[u8],
-    from: usize,
-    rows: &[u64],
-    spans: &[u64],
-    starts: &[u32],
-    pool: &mut [u64],
-    out: &mut [u8],
-) -> usize
-    requires { from < 0x30_0000 }
-{
-    let store = part(records, 60, u16_at(records, 0));
-    let program = program_at(records);
-    let answer = serialize::serialize_payload(store, program, rows, spans, starts, pool, out);
-    agreed(records, from, answer, pool, out)
+        && output_agrees(out, part(records, out_from, size), BEFORE);
+    agrees.then_some(out_from + size)
 }
 
 // Puts the rows, spans and starts of a record into lent tables, as many as they have, and replays the writing.
-pub(crate) fn written(
-    records: &[u8],
-    rows: &mut [u64],
-    spans: &mut [u64],
-    starts: &mut [u32],
-    pool: &mut [u64],
-) -> usize {
-    let room = u16_at(records, 10);
-    if OUTPUT < room {
-        return 0;
-    }
+pub(crate) fn written(records: &[u8], tables: LentTables<'_>) -> Option<usize> {
+    let LentTables {
+        rows,
+        spans,
+        starts,
+        pool,
+    } = tables;
+    let mut out = [BEFORE; OUTPUT];
+    let out = out.get_mut(..u16_at(records, 10))?;
     let rows_from = 60 + u16_at(records, 0);
     let spans_from = rows_from + 8 * u16_at(records, 2);
     let starts_from = spans_from + 8 * u16_at(records, 4);
     let from = starts_from + 4 * u16_at(records, 6);
-    words_in(part(records, rows_from, records.len()), rows);
-    words_in(part(records, spans_from, records.len()), spans);
-    starts_in(part(records, starts_from, records.len()), starts);
-    let mut out = [BEFORE; OUTPUT];
-    agreed_write(records, from, rows, spans, starts, pool, &mut out[..room])
+    numbers_in(part(records, rows_from, records.len()), rows);
+    numbers_in(part(records, spans_from, records.len()), spans);
+    numbers_in(part(records, starts_from, records.len()), starts);
+    let store = part(records, 60, u16_at(records, 0));
+    let program = program_at(records);
+    let answer = serialize::serialize_payload(store, program, rows, spans, starts, pool, out);
+    agreed(records, from, answer, pool, out)
 }

@@ -1,11 +1,12 @@
 -- A rule of a table, proved at all of its entries by one test that antt computes, one entry after the other.
 use mathlib.Core.Bool.{Bool, true, false, ◌&&◌}
 use mathlib.Core.List.{List, [], ◌∷◌}
-use mathlib.Core.Path.{◌≡◌, ◌∙◌, subst, sym}
-use Prim.Native.Nat.{ℕ, zero, suc, ◌+◌, ◌<◌, min}
+use mathlib.Core.Path.{◌≡◌, refl, ◌∙◌, subst, sym}
+use Prim.Native.Nat.{ℕ, zero, suc, ◌+◌, ◌<◌, ◌≤◌, min}
 use native.Mathlib.Nat.{add-zero, zero-add, add-suc, suc-add, le_of_suc-le-suc, not-suc-le-zero}
 use native.Mathlib.Omega.{arith}
-use lib.Dec.{T, eqb, eqb→eq}
+use lib.Dec.{T, eqb, eqb→eq, leb}
+use borrow.Author.Tests.{leb-true}
 use lib.ListN.{length, get_or}
 use Rattle.row_layout.specs.Digits.{digits, entries}
 
@@ -38,3 +39,13 @@ pub agrees :
     f (min t 34) ≡ f t → r ≡ f t
 unfolding entries digits
 agrees f r low middle high t e right same = e ∙ eqb→eq _ _ (at (λ k x. eqb x (f k)) (entries low middle high) right (min t 34) (omega arith)) ∙ same
+
+-- no digit of a table is above b
+pub at_most :
+    (b r low middle high t : ℕ) → r ≡ get_or (entries low middle high) (min t 34) 0 → T (every (λ k x. leb x b) 0 (entries low middle high)) → r ≤ b
+unfolding entries digits
+at_most b r low middle high t e right = rw e (leb-true _ _ (is_true _ (at (λ k x. leb x b) (entries low middle high) right (min t 34) (omega arith))))
+  where
+    is_true : (x : Bool) → T x → x ≡ true
+    is_true true t = refl
+    is_true false t = absurd t

@@ -1,4 +1,5 @@
 pub mod Digits
 pub mod Layout
+pub mod Number
 pub mod Under
 pub mod Laws

@@ -3,10 +3,85 @@
 // The digit of tag 34 stands for every tag that no row has.
 #![tactic(auto)]
 
-ghost use Rattle.std.specs.Prelude.{◌≡◌, min, get_or};
+ghost use Rattle.std.specs.Prelude.{◌≡◌, ◌≤◌, min, get_or};
 ghost use Rattle.payload.specs.Shapes.{is_key_tag};
 ghost use Rattle.row_layout.specs.Digits.{entries};
 ghost use Rattle.row_layout.specs.Layout.{first_form, second_form, second_word, under_form, count_word, first_test, second_test, under_rules, used_words};
+ghost use Rattle.row_layout.specs.Number.{test_number, rules_number};
+
+// The test that the words of an item must pass.
+#[derive(Clone, Copy, Debug, PartialEq, Eq)]
+pub enum Test {
+    NoItem,
+    AnyWord,
+    Bits32,
+    Bits16,
+    Byte,
+    Bool,
+    HandleKind,
+    Scalar,
+    Signed32,
+    Signed16,
+    Signed8,
+    Text,
+    Code,
+}
+
+// The rules of the rows under a row.
+#[derive(Clone, Copy, Debug, PartialEq, Eq)]
+pub enum Rules {
+    Nothing,
+    OneValue,
+    Values,
+    Keys,
+    Pairs,
+    Chunk,
+    Fields,
+    Template,
+}
+
+impl Test {
+    // The test that a digit stands for.
+    fn of(digit: u64) -> Self
+        requires { digit ≤ 12 }
+        ensures { test_number result ≡ digit }
+    {
+        match digit {
+            0 => Test::NoItem,
+            1 => Test::AnyWord,
+            2 => Test::Bits32,
+            3 => Test::Bits16,
+            4 => Test::Byte,
+            5 => Test::Bool,
+            6 => Test::HandleKind,
+            7 => Test::Scalar,
+            8 => Test::Signed32,
+            9 => Test::Signed16,
+            10 => Test::Signed8,
+            11 => Test::Text,
+            _ => Test::Code,
+        }
+    }
+}
+
+impl Rules {
+    // The rules that a digit stands for.
+    fn of(digit: u64) -> Self
+        requires { digit ≤ 7 }
+        ensures { rules_number result ≡ digit }
+    {
+        match digit {
+            0 => Rules::Nothing,
+            1 => Rules::OneValue,
+            2 => Rules::Values,
+            3 => Rules::Keys,
+            4 => Rules::Pairs,
+            5 => Rules::Chunk,
+            6 => Rules::Fields,
+            _ => Rules::Template,
+        }
+    }
+}
 
 // The digit of a tag in a table.
 fn digit(tag: u64, low: u64, middle: u64, high: u64) -> u64
@@ -60,24 +135,27 @@ pub fn count_word(tag: u64) -> u64
 }
 
 // The test of the first item.
-pub fn first_test(tag: u64) -> u64
-    ensures { result ≡ first_test tag }
+pub fn first_test(tag: u64) -> Test
+    ensures { test_number result ≡ first_test tag }
 {
-    digit(tag, 0x0000_000b_bb74_5110, 0x0000_062a_9328_13bb, 0x0bc)
+    let digit = digit(tag, 0x0000_000b_bb74_5110, 0x0000_062a_9328_13bb, 0x0bc);
+    Test::of(digit)
 }
 
 // The test of the second item.
-pub fn second_test(tag: u64) -> u64
-    ensures { result ≡ second_test tag }
+pub fn second_test(tag: u64) -> Test
+    ensures { test_number result ≡ second_test tag }
 {
-    digit(tag, 0x0000_0000_1000_0000, 0x0000_0100_0000_00b0, 0x000)
+    let digit = digit(tag, 0x0000_0000_1000_0000, 0x0000_0100_0000_00b0, 0x000);
+    Test::of(digit)
 }
 
 // The rules of the rows under the row.
-pub fn under_rules(tag: u64) -> u64
-    ensures { result ≡ under_rules tag }
+pub fn under_rules(tag: u64) -> Rules
+    ensures { rules_number result ≡ under_rules tag }
 {
-    digit(tag, 0x4322_1110_5000_0000, 0x0000_0000_0000_0706, 0x012)
+    let digit = digit(tag, 0x4322_1110_5000_0000, 0x0000_0000_0000_0706, 0x012);
+    Rules::of(digit)
 }
 
 // How many of the row's words are used.
@@ -91,5 +169,5 @@ pub fn used_words(tag: u64) -> u64
 pub fn is_key_tag(tag: u64) -> bool
     ensures { result ≡ is_key_tag tag }
 {
-    ((tag == 1) | ((3 <= tag) & (tag <= 6))) | ((19 <= tag) & (tag <= 24))
+    matches!(tag, 1 | 3..=6 | 19..=24)
 }

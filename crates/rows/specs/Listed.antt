@@ -5,7 +5,7 @@ use Rattle.payload.specs.Reader.{Result}
 use Rattle.payload.specs.Reading.{Payload}
 use Rattle.payload.specs.Rows.{row_width}
 use Rattle.payload.specs.Tables.{capacities_of, read_answer, reading, used_rows}
-use Rattle.payload.specs.declared.Read.TheVariants.{Refused}
+use Rattle.refusal.specs.Answer as read
 use Rattle.listing.specs.Listing.{listing}
 
 -- a payload read with an empty names list into tables of 512 rows, 1,024 spans, 512 starts and 256 strings
@@ -17,4 +17,4 @@ abbrev pub listed_limit : ℕ
 listed_limit = 4096
 
 unfoldable pub listed : List ℕ → List ℕ
-listed bytes = when ltb listed_limit (length bytes) then listing (Refused 16 0) [] else listing (read_answer (table_reading bytes)) (used_rows (table_reading bytes))
+listed bytes = when ltb listed_limit (length bytes) then listing (read.refused 16 0) [] else listing (read_answer (table_reading bytes)) (used_rows (table_reading bytes))

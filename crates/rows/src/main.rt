@@ -6,7 +6,8 @@ ghost use Rattle.std.specs.Counts.{IsPrefixLen};
 ghost use Rattle.slices.specs.Put.{put};
 ghost use Rattle.rows.specs.Listed.{listed};
 
-use payload::{Program, Read};
+use payload::Program;
+use refusal::Reason;
 use std::io;
 
 // The most bytes of a payload that is listed.
@@ -29,7 +30,7 @@ fn list_payload(bytes: &[u8], out: &mut [u8; 65536]) -> usize
 {
     let mut rows = [0u64; Program::ROW_WIDTH * ROWS];
     if PAYLOAD < bytes.len() {
-        return listing::put_listing(Read::Refused(16, 0), &rows, out);
+        return listing::put_listing(Err(Reason::TooLarge.at(0)), &rows, out);
     }
     let mut spans = [0u64; 2 * SPANS];
     let mut starts = [0u32; STARTS];

@@ -1,11 +1,9 @@
--- NaNs, by the code's tests: one comparison of a pattern's bits, and `x != x` of a float. One law for both formats. Assumes nothing.
-use mathlib.Core.Path.{◌≡◌, sym, subst, ◌∙◌}
-use mathlib.Core.Bool.{Bool, true, false, not}
+-- NaNs, by the code's tests: one comparison of a pattern's bits, and `is_nan` of a float. One law for both formats. Assumes nothing.
+use mathlib.Core.Path.{◌≡◌, refl, ◌∙◌}
+use mathlib.Core.Bool.{true, false}
 use Prim.Native.Nat.{ℕ, ◌%◌, ◌*◌, ◌<◌, ◌≤◌}
-use lib.Dec.{T}
-use lib.Ieee.{Float, Format, nan, inf, fin, top, ones, hid, nan_bits, is_nan, ne}
+use lib.Ieee.{Float, Format, nan, inf, fin, top, ones, hid, nan_bits, is_nan}
 use lib.Ieee.Bits.{nan_bits_above}
-use lib.Ieee.Compare.{differs_from_itself, nan_differs}
 use borrow.Author.Tests.{le-ltb, lt-ltb}
 
 module _ (f : Format) (n : ℕ) where
@@ -15,11 +13,8 @@ module _ (f : Format) (n : ℕ) where
   pub nan_bits_lem : ones f * hid f < n % top f → nan_bits f n ≡ true
   nan_bits_lem h = nan_bits_above f n ∙ lt-ltb _ _ h
 
-pub no_nan : (x : Float) → ne x x ≡ false → T (not (is_nan x))
+pub is_nan_lem : (x : Float) → is_nan x ≡ true → x ≡ nan
 unfolding is_nan
-no_nan nan h = subst (λ (b : Bool). T (not b)) (sym (sym nan_differs ∙ h)) tt
-no_nan (inf s) h = tt
-no_nan (fin s m e) h = tt
-
-pub is_nan_lem : (x : Float) → ne x x ≡ true → x ≡ nan
-is_nan_lem x h = differs_from_itself x (subst T (sym h) tt)
+is_nan_lem nan h = refl
+is_nan_lem (inf s) h = cc
+is_nan_lem (fin s m e) h = cc

@@ -49,6 +49,7 @@ fn row(tag: u64, a: u64, b: u64) -> Words
 }
 
 // The constant of a row's words, each cut to what its case holds.
+#[tactic(auto, unfolding(crate::specs::Scalar::const_of))]
 fn const_of(t: u64, a: u64, b: u64) -> Constant
     ensures { result ≡ const_of t a b }
 {
@@ -72,6 +73,7 @@ fn const_of(t: u64, a: u64, b: u64) -> Constant
 }
 
 // Without its sign, a NaN's pattern is above that of infinity.
+#[tactic(auto, using(crate::proofs::Nan::no_nan_bits, crate::proofs::Nan::nan_bits_lem))]
 fn const_float(n: u64) -> Constant
     ensures { result ≡ float_of n }
 {
@@ -81,6 +83,8 @@ fn const_float(n: u64) -> Constant
     Constant::NanBits(n)
 }
 
+// The same for f32. One function over both would need a trait whose two impls hold these lines, since std's f32 and f64 share none.
+#[tactic(auto, using(crate::proofs::Nan::no_nan_bits, crate::proofs::Nan::nan_bits_lem))]
 fn const_sfloat(n: u32) -> Constant
     ensures { result ≡ sfloat_of n }
 {
@@ -91,17 +95,19 @@ fn const_sfloat(n: u32) -> Constant
 }
 
 // The words of a constant's row; those of Other are all 0.
+#[tactic(auto, unfolding(crate::specs::Scalar::row_of))]
 fn row_of(c: Constant) -> Words
     ensures { result ≡ row_of c }
 {
     match c {
         Constant::Value(s) => words_of(s),
         Constant::NanBits(n) => row(2, n, 0),
-        Constant::SNanBits(n) => row(25, n as u64, 0),
+        Constant::SNanBits(n) => row(25, u64::from(n), 0),
         Constant::Other => row(0, 0, 0),
     }
 }
 
+#[tactic(auto, unfolding(crate::specs::Scalar::words_of))]
 fn words_of(s: Scalar) -> Words
     ensures { result ≡ words_of s }
 {
@@ -109,37 +115,38 @@ fn words_of(s: Scalar) -> Words
         Scalar::Null => row(0, 0, 0),
         Scalar::Int(x) => row(1, signed::to_word(x), 0),
         Scalar::Float(x) => row(2, bits_of_f64(x), 0),
-        Scalar::Bool(t) => row(3, t as u64, 0),
-        Scalar::Byte(n) => row(4, n as u64, 0),
-        Scalar::Char(n) => row(5, n as u64, 0),
+        Scalar::Bool(t) => row(3, u64::from(t), 0),
+        Scalar::Byte(n) => row(4, u64::from(n), 0),
+        Scalar::Char(n) => row(5, u64::from(n), 0),
         Scalar::UInt(n) => row(19, n, 0),
-        Scalar::SInt(x) => row(20, signed::to_word(x as i64), 0),
-        Scalar::SUInt(n) => row(21, n as u64, 0),
-        Scalar::BByte(n) => row(22, n as u64, 0),
-        Scalar::BSByte(x) => row(23, signed::to_word(x as i64), 0),
-        Scalar::SByte(x) => row(24, signed::to_word(x as i64), 0),
-        Scalar::SFloat(x) => row(25, bits_of_f32(x) as u64, 0),
-        Scalar::Handle(k, id) => row(26, k as u64, id),
+        Scalar::SInt(x) => row(20, signed::to_word(i64::from(x)), 0),
+        Scalar::SUInt(n) => row(21, u64::from(n), 0),
+        Scalar::BByte(n) => row(22, u64::from(n), 0),
+        Scalar::BSByte(x) => row(23, signed::to_word(i64::from(x)), 0),
+        Scalar::SByte(x) => row(24, signed::to_word(i64::from(x)), 0),
+        Scalar::SFloat(x) => row(25, u64::from(bits_of_f32(x)), 0),
+        Scalar::Handle(k, id) => row(26, u64::from(k), id),
     }
 }
 
-// The pattern of a float. Only a NaN differs from itself, and it gets the pattern that the definition has for it.
+// The pattern of a float. A NaN gets the pattern that the definition has for it.
 fn bits_of_f64(x: f64) -> u64
     ensures { result ≡ to_bits binary64 x }
 {
-    if x != x {
+    if x.is_nan() {
         return 0x7FF8_0000_0000_0000;
     }
-    f64::to_bits(x)
+    x.to_bits()
 }
 
+// The same for f32, apart for the reason above.
 fn bits_of_f32(x: f32) -> u32
     ensures { result ≡ to_bits binary32 x }
 {
-    if x != x {
+    if x.is_nan() {
         return 0x7FC0_0000;
     }
-    f32::to_bits(x)
+    x.to_bits()
 }
 
 // A row's words to the constant and back: the same words, where they fit a scalar's row (`scalar_row` in specs/Laws).

@@ -6,6 +6,8 @@ use Rattle.payload.specs.Reading.{read_many}
 use Rattle.payload.specs.Scan.{RowScan, any_row, is_function, scan_keys, scan_kids, scan_pairs, scan_untagged}
 use Rattle.payload.specs.Shapes.{ItemKind, Kids, Shape, keys, no_value, one_value, pairs, shape, values, with_chunk, with_fields, with_kids, with_template}
 use Rattle.payload.specs.Trees.{Node, Trees, cons, nil}
+use Rattle.scan_rows.specs.declared.Member.{Member}
+use Rattle.scan_rows.specs.declared.Member.TheVariants.{Value, Chunk, Field}
 use Rattle.scan_rows.specs.Row.{count_at, key_fits, row_count, row_key, tag_at}
 
 -- a chunk row, a field row
@@ -17,6 +19,12 @@ scan_field store r = scan_untagged store r 33 (ItemKind.string ∷ []) one_value
 
 abbrev pub scan_chunk_or_field : List ℕ → RowScan → ℕ → Reader (Node Part)
 scan_chunk_or_field store r tag = when eqb tag 32 then scan_chunk store r else scan_field store r
+
+-- a row of a kind
+abbrev pub scan_member : List ℕ → RowScan → Member → Reader (Node Part)
+scan_member store r Value = r any_row
+scan_member store r Chunk = scan_chunk store r
+scan_member store r Field = scan_field store r
 
 -- a function, and then values
 abbrev pub scan_template : RowScan → ℕ → Reader (Trees Part)

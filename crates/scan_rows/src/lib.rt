@@ -3,554 +3,452 @@
 
 ghost use Rattle.std.specs.Prelude.{◌≡◌, ℕ, ◌+◌, ◌-◌, ◌*◌, ◌/◌, ◌^◌, ◌≤◌, ◌<◌, List, [], true, not, leb, eqb, length};
 ghost use Rattle.scan_rows.specs.Row.{row_count, word_at, tag_at, count_at, at_row, zeros_from, row_fits, is_tagged, head_fits, key_fits, row_key};
-ghost use Rattle.scan_rows.specs.Under.{rows_under, Skip, Entries, scan_under, scan_entries, scan_chunk_or_field, scan_field, scan_template};
+ghost use Rattle.scan_rows.specs.Under.{rows_under, Skip, Entries, scan_under, scan_entries, scan_chunk_or_field, scan_member, scan_template};
 ghost use Rattle.scan_rows.specs.Found.{WholeRows, Scanned, Answers};
 ghost use Rattle.scan_rows.specs.Code.{code_at, code_total, spans_fit};
+ghost use Rattle.payload.specs.Held.{script_in};
 ghost use Rattle.payload.specs.Rows.{row_width};
-ghost use Rattle.payload.specs.Spans.{small_spans};
-ghost use Rattle.payload.specs.Sound.{tables, spans_of, all_starts, line_sound, script_of};
+ghost use Rattle.payload.specs.Sound.{tables, line_sound};
+ghost use Rattle.row_layout.specs.Layout.{under_rules};
+ghost use Rattle.row_layout.specs.Number.{test_number};
 ghost use Rattle.slices.specs.Same.{same};
 ghost use Rattle.payload.specs.Pool.{is_in};
 ghost use Rattle.payload.specs.Shapes.{shape};
 ghost use Rattle.payload.specs.Choice.{◌and◌};
 ghost use Rattle.payload.specs.Scan.{any_row, scan_value};
 ghost use Rattle.payload.specs.Reading.{read_many};
-ghost use Rattle.scan_rows.specs.Fits.{number_fits, words_fit};
+ghost use Rattle.scan_rows.specs.Fits.{words_fit};
 
-use payload::Program;
+use payload::{Program, Tables};
+use row_layout::{Rules, Test};
 
-// The row after what was scanned, or the first row that breaks a rule.
-#[derive(Clone, Copy)]
-enum Scan {
-    Next(usize),
-    Bad(usize),
+// The first row that breaks a rule, or the row count where spans or line index do.
+#[derive(Clone, Copy, Debug, PartialEq, Eq)]
+pub struct BrokenRow {
+    pub row: usize,
 }
 
-// The row that breaks a rule, or the row count.
+// What a row under a row may be.
 #[derive(Clone, Copy)]
-pub enum Soundness {
-    Sound,
-    Unsound(usize),
+enum Member {
+    Value,
+    Chunk,
+    Field,
+}
+
+// The rows of a table, each of them whole, and the store in which their parts stand.
+#[derive(Clone, Copy)]
+struct Rows<'a> {
+    store: &'a [u8],
+    words: &'a [u64],
+    ghost whole: { WholeRows words.now },
 }
 
 // ---- the words of a row
 
-fn word_at(rows: &[u64], i: usize, k: u64) -> u64
-    requires { (i < row_count rows.now) × (k < row_width) }
-    ensures { (result ≡ word_at rows.now i k) × ((j : ℕ) → word_at rows.now i j < 2 ^ 64) }
-{
-    rows[Program::ROW_WIDTH * i + k as usize]
-}
+impl Rows<'_> {
+    // How many rows there are.
+    fn count(&self) -> usize
+        ensures { result ≡ row_count self.now.words.now }
+    {
+        self.words.len() / Program::ROW_WIDTH
+    }
 
-// A number that a row holds, by its test.
-fn number_fits(test: u64, w: u64) -> bool
-    ensures { result ≡ number_fits test w }
-{
-    if test == 2 {
-        return w < 0x1_0000_0000;
+    // Word k of row i.
+    fn word_at(&self, i: usize, k: u64) -> u64
+        requires { (i < row_count self.now.words.now) × (k < row_width) }
+        ensures { (result ≡ word_at self.now.words.now i k) × ((j : ℕ) → word_at self.now.words.now i j < 2 ^ 64) }
+    {
+        let words = self.words;
+        words[Program::ROW_WIDTH * i + k as usize]
     }
-    if test == 3 {
-        return w < 0x1_0000;
-    }
-    if test == 4 {
-        return w < 256;
-    }
-    if test == 5 {
-        return w < 2;
-    }
-    if test == 6 {
-        return w <= 5;
-    }
-    if test == 7 {
-        return (w < 0xD800) | ((0xE000 <= w) & (w < 0x11_0000));
-    }
-    if test == 8 {
-        return (w < 0x8000_0000) | (0xFFFF_FFFF_8000_0000 <= w);
-    }
-    if test == 9 {
-        return (w < 0x8000) | (0xFFFF_FFFF_FFFF_8000 <= w);
-    }
-    if test == 10 {
-        return (w < 0x80) | (0xFFFF_FFFF_FFFF_FF80 <= w);
-    }
-    true
-}
 
-// Whether a part lies in the store. No sum can wrap.
-fn part_fits(store: &[u8], o: u64, n: u64) -> bool
-    ensures { result ≡ leb (o + n) (length store.now) }
-{
-    let end = store.len() as u64;
-    if end < o {
-        return false;
+    // The count of row i, whose rules have one.
+    fn count_at(&self, i: usize) -> u64
+        requires { (i < row_count self.now.words.now) × (2 ≤ under_rules (tag_at self.now.words.now i)) }
+        ensures { result ≡ count_at self.now.words.now i }
+    {
+        let tag = self.word_at(i, 0);
+        self.word_at(i, row_layout::count_word(tag))
     }
-    n <= end - o
-}
 
-// An item by its test.
-fn item_fits(store: &[u8], test: u64, a: u64, b: u64) -> bool
-    ensures { result ≡ words_fit store.now test a b }
-{
-    if test == 11 {
-        return utf8::part_is_utf8(store, a as usize, b as usize);
+    // Whether a part lies in the store. No sum can wrap.
+    fn part_fits(&self, o: u64, n: u64) -> bool
+        ensures { result ≡ leb (o + n) (length self.now.store.now) }
+    {
+        let end = self.store.len() as u64;
+        o <= end && n <= end - o
     }
-    if test == 12 {
-        return part_fits(store, a, b);
-    }
-    number_fits(test, a)
-}
 
-// The words of row i from word k on are 0.
-fn zero_from(rows: &[u64], i: usize, k: u64) -> bool
-    requires { i < row_count rows.now }
-    ensures { result ≡ zeros_from rows.now i k (row_width - k) }
-{
-    let mut j = k;
-    while j < Program::ROW_WIDTH as u64 {
-        if word_at(rows, i, j) != 0 {
+    // Whether the word a, or the part at a of b bytes, passes an item's test.
+    fn item_fits(&self, test: Test, a: u64, b: u64) -> bool
+        ensures { result ≡ words_fit self.now.store.now (test_number test) a b }
+    {
+        match test {
+            Test::NoItem | Test::AnyWord => true,
+            Test::Bits32 => a < 0x1_0000_0000,
+            Test::Bits16 => a < 0x1_0000,
+            Test::Byte => a < 256,
+            Test::Bool => a < 2,
+            Test::HandleKind => a <= 5,
+            Test::Scalar => (a < 0xD800) | ((0xE000 <= a) & (a < 0x11_0000)),
+            Test::Signed32 => (a < 0x8000_0000) | (0xFFFF_FFFF_8000_0000 <= a),
+            Test::Signed16 => (a < 0x8000) | (0xFFFF_FFFF_FFFF_8000 <= a),
+            Test::Signed8 => (a < 0x80) | (0xFFFF_FFFF_FFFF_FF80 <= a),
+            Test::Text => utf8::part_is_utf8(self.store, a as usize, b as usize),
+            Test::Code => self.part_fits(a, b),
+        }
+    }
+
+    // The words of row i from word k on are 0.
+    fn zero_from(&self, i: usize, k: u64) -> bool
+        requires { i < row_count self.now.words.now }
+        ensures { result ≡ zeros_from self.now.words.now i k (row_width - k) }
+    {
+        for j in k..Program::ROW_WIDTH as u64 {
+            if self.word_at(i, j) != 0 {
+                return false;
+            }
+        }
+        true
+    }
+
+    // The words of row i fit the kinds of its tag, and the unused ones are 0.
+    fn row_fits(&self, i: usize) -> bool
+        requires { i < row_count self.now.words.now }
+        ensures { result ≡ row_fits self.now.store.now self.now.words.now i }
+    {
+        let tag = self.word_at(i, 0);
+        let first = row_layout::first_test(tag);
+        if !self.item_fits(first, self.word_at(i, 1), self.word_at(i, 2)) {
             return false;
         }
-        j += 1;
+        let w = row_layout::second_word(tag);
+        let second = row_layout::second_test(tag);
+        if !self.item_fits(second, self.word_at(i, w), self.word_at(i, w + 1)) {
+            return false;
+        }
+        self.zero_from(i, row_layout::used_words(tag))
     }
-    true
-}
 
-// The words of row i fit the kinds of its tag, and the unused ones are 0.
-fn row_fits(store: &[u8], rows: &[u64], i: usize) -> bool
-    requires { i < row_count rows.now }
-    ensures { result ≡ row_fits store.now rows.now i }
-{
-    let tag = word_at(rows, i, 0);
-    if !item_fits(
-        store,
-        row_layout::first_test(tag),
-        word_at(rows, i, 1),
-        word_at(rows, i, 2),
-    ) {
-        return false;
+    // How many rows are right under row i.
+    fn rows_under(&self, i: usize) -> u64
+        requires { (i < row_count self.now.words.now) × (rows_under self.now.words.now i ≤ row_count self.now.words.now) }
+        ensures { result ≡ rows_under self.now.words.now i }
+    {
+        let tag = self.word_at(i, 0);
+        // Most rows are numbers and strings. The search among the keys of a map spends its time here, so they are told without the table.
+        if tag < 7 {
+            return 0;
+        }
+        match row_layout::under_rules(tag) {
+            Rules::Nothing => 0,
+            Rules::OneValue | Rules::Chunk => 1,
+            Rules::Values | Rules::Keys | Rules::Fields => self.count_at(i),
+            Rules::Pairs => 2 * self.count_at(i),
+            Rules::Template => self.count_at(i) + 1,
+        }
     }
-    let w = row_layout::second_word(tag);
-    if !item_fits(
-        store,
-        row_layout::second_test(tag),
-        word_at(rows, i, w),
-        word_at(rows, i, w + 1),
-    ) {
-        return false;
-    }
-    zero_from(rows, i, row_layout::used_words(tag))
-}
 
-// How many rows are right under row i.
-fn rows_under(rows: &[u64], i: usize) -> u64
-    requires { (i < row_count rows.now) × (rows_under rows.now i ≤ row_count rows.now) }
-    ensures { result ≡ rows_under rows.now i }
-{
-    let tag = word_at(rows, i, 0);
-    let rules = row_layout::under_rules(tag);
-    if rules == 0 {
-        return 0;
+    // The row after `count` rows and those under them. The rows were scanned.
+    fn row_after(&self, count: u64, i: usize) -> usize
+        requires i_bound { i ≤ row_count self.now.words.now }
+        requires by_index { (j : ℕ) × Skip self.now.words.now count i j }
+        ensures { (j : ℕ) → Skip self.now.words.now count i j → result ≡ j }
+    {
+        let mut pending = count;
+        let mut at = i;
+        while 0 < pending {
+            let n = self.rows_under(at);
+            pending = pending - 1 + n;
+            at += 1;
+        }
+        at
     }
-    if rules == 1 {
-        return 1;
-    }
-    let n = word_at(rows, i, row_layout::count_word(tag));
-    if rules == 5 {
-        return 1;
-    }
-    if rules == 4 {
-        return 2 * n;
-    }
-    if rules == 7 {
-        return n + 1;
-    }
-    n
-}
-
-// The row after `count` rows and those under them. The rows were scanned.
-fn row_after(rows: &[u64], count: u64, i: usize) -> usize
-    requires i_bound { i ≤ row_count rows.now }
-    requires by_index { (j : ℕ) × Skip rows.now count i j }
-    ensures { (j : ℕ) → Skip rows.now count i j → result ≡ j }
-{
-    let mut pending = count;
-    let mut at = i;
-    while 0 < pending {
-        let n = rows_under(rows, at);
-        pending = pending - 1 + n;
-        at += 1;
-    }
-    at
 }
 
 // ---- keys
 
-// Whether row i can be a key.
-fn key_fits(store: &[u8], rows: &[u64], i: usize) -> bool
-    ensures { result ≡ key_fits store.now rows.now i }
-{
-    if rows.len() / Program::ROW_WIDTH <= i {
-        return false;
+impl Rows<'_> {
+    // Whether row i can be a key.
+    fn key_fits(&self, i: usize) -> bool
+        ensures { result ≡ key_fits self.now.store.now self.now.words.now i }
+    {
+        i < self.count() && row_layout::is_key_tag(self.word_at(i, 0)) && self.row_fits(i)
     }
-    if !row_layout::is_key_tag(word_at(rows, i, 0)) {
-        return false;
-    }
-    row_fits(store, rows, i)
-}
 
-// Whether rows a and b, which can be keys, are the same key: strings by their bytes.
-fn same_key(store: &[u8], rows: &[u64], a: usize, b: usize) -> bool
-    requires a_value { key_fits store.now rows.now a ≡ true }
-    requires b_value { key_fits store.now rows.now b ≡ true }
-    ensures { result ≡ same (row_key store.now rows.now b) (row_key store.now rows.now a) }
-{
-    let tag = word_at(rows, a, 0);
-    if tag != word_at(rows, b, 0) {
-        return false;
-    }
-    let v = word_at(rows, a, 1);
-    let w = word_at(rows, b, 1);
-    if tag != 6 {
-        return w == v;
-    }
-    let n = word_at(rows, a, 2);
-    if n != word_at(rows, b, 2) {
-        return false;
-    }
-    if w == v {
-        return true;
-    }
-    slices::equal_parts(store, w as usize, store, v as usize, n as usize)
-}
-
-// Whether row i is the key of an earlier entry. The entries begin at `first`, and each is `width` rows with those under them.
-fn key_seen(store: &[u8], rows: &[u64], width: u64, first: usize, i: usize) -> bool
-    requires le_width { 1 ≤ width }
-    requires i_value { key_fits store.now rows.now i ≡ true }
-    requires by_index { (l : List (List ℕ)) × Entries store.now rows.now width first i l }
-    ensures { (l : List (List ℕ)) → Entries store.now rows.now width first i l → result ≡ is_in (row_key store.now rows.now i) l }
-{
-    let mut k = first;
-    while k < i {
-        if same_key(store, rows, k, i) {
+    // Whether rows a and b, which can be keys, are the same key: strings by their bytes.
+    fn same_key(&self, a: usize, b: usize) -> bool
+        requires a_value { key_fits self.now.store.now self.now.words.now a ≡ true }
+        requires b_value { key_fits self.now.store.now self.now.words.now b ≡ true }
+        ensures { result ≡ same (row_key self.now.store.now self.now.words.now b) (row_key self.now.store.now self.now.words.now a) }
+    {
+        let tag = self.word_at(a, 0);
+        if tag != self.word_at(b, 0) {
+            return false;
+        }
+        let v = self.word_at(a, 1);
+        let w = self.word_at(b, 1);
+        if tag != 6 {
+            return w == v;
+        }
+        let n = self.word_at(a, 2);
+        if n != self.word_at(b, 2) {
+            return false;
+        }
+        if w == v {
             return true;
         }
-        k = row_after(rows, width, k);
+        slices::equal_parts(self.store, w as usize, self.store, v as usize, n as usize)
     }
-    false
-}
-// Whether row i is there and has a tag.
-fn is_tagged(rows: &[u64], tag: u64, i: usize) -> bool
-    ensures { result ≡ is_tagged rows.now tag i }
-{
-    if rows.len() / Program::ROW_WIDTH <= i {
-        return false;
-    }
-    word_at(rows, i, 0) == tag
-}
 
-// Whether it is there, has the tag, and its words fit.
-fn head_fits(store: &[u8], rows: &[u64], tag: u64, i: usize) -> bool
-    ensures { result ≡ head_fits store.now rows.now tag i }
-{
-    if !is_tagged(rows, tag, i) {
-        return false;
+    // Whether row i is the key of an earlier entry. The entries begin at `first`, and each is `width` rows with those under them.
+    fn key_seen(&self, width: u64, first: usize, i: usize) -> bool
+        requires le_width { 1 ≤ width }
+        requires i_value { key_fits self.now.store.now self.now.words.now i ≡ true }
+        requires by_index { (l : List (List ℕ)) × Entries self.now.store.now self.now.words.now width first i l }
+        ensures { (l : List (List ℕ)) → Entries self.now.store.now self.now.words.now width first i l → result ≡ is_in (row_key self.now.store.now self.now.words.now i) l }
+    {
+        let mut k = first;
+        while k < i {
+            if self.same_key(k, i) {
+                return true;
+            }
+            k = self.row_after(width, k);
+        }
+        false
     }
-    row_fits(store, rows, i)
-}
 
-// Whether row i is a key, and none of an earlier entry.
-fn is_new_key(store: &[u8], rows: &[u64], width: u64, first: usize, i: usize) -> bool
-    requires le_width { 1 ≤ width }
-    requires by_index { (l : List (List ℕ)) × Entries store.now rows.now width first i l }
-    ensures { (l : List (List ℕ)) → Entries store.now rows.now width first i l
-        → result ≡ (key_fits store.now rows.now i and not (is_in (row_key store.now rows.now i) l)) }
-{
-    if !key_fits(store, rows, i) {
-        return false;
+    // Whether row i is there and has a tag.
+    fn is_tagged(&self, tag: u64, i: usize) -> bool
+        ensures { result ≡ is_tagged self.now.words.now tag i }
+    {
+        i < self.count() && self.word_at(i, 0) == tag
     }
-    !key_seen(store, rows, width, first, i)
+
+    // Whether it is there, has the tag, and its words fit.
+    fn head_fits(&self, tag: u64, i: usize) -> bool
+        ensures { result ≡ head_fits self.now.store.now self.now.words.now tag i }
+    {
+        self.is_tagged(tag, i) && self.row_fits(i)
+    }
+
+    // Whether row i is a key, and none of an earlier entry.
+    fn is_new_key(&self, width: u64, first: usize, i: usize) -> bool
+        requires le_width { 1 ≤ width }
+        requires by_index { (l : List (List ℕ)) × Entries self.now.store.now self.now.words.now width first i l }
+        ensures { (l : List (List ℕ)) → Entries self.now.store.now self.now.words.now width first i l
+            → result ≡ (key_fits self.now.store.now self.now.words.now i and not (is_in (row_key self.now.store.now self.now.words.now i) l)) }
+    {
+        self.key_fits(i) && !self.key_seen(width, first, i)
+    }
 }
 
 // ---- the scan: a value, and what can be under a row
 
-// A value with `depth` levels left.
-#[cycle(scan)]
-fn scan_value(depth: usize, store: &[u8], rows: &[u64], i: usize) -> Scan
-    requires { WholeRows rows.now }
-    ensures { Scanned rows.now 1 i result (scan_value store.now depth any_row (at_row rows.now i)) }
-{
-    if depth == 0 {
-        return Scan::Bad(i);
-    }
-    if rows.len() / Program::ROW_WIDTH <= i {
-        return Scan::Bad(i);
-    }
-    if 26 < word_at(rows, i, 0) {
-        return Scan::Bad(i);
-    }
-    if !row_fits(store, rows, i) {
-        return Scan::Bad(i);
-    }
-    scan_under(depth - 1, store, rows, i)
-}
-
-// The rows under row i, by its rules.
-#[cycle(scan)]
-fn scan_under(depth: usize, store: &[u8], rows: &[u64], i: usize) -> Scan
-    requires whole_rows { WholeRows rows.now }
-    requires i_bound { i < row_count rows.now }
-    ensures { Scanned rows.now (rows_under rows.now i) (i + 1) result
-        (scan_under store.now (scan_value store.now depth) (shape (tag_at rows.now i)) (count_at rows.now i) (at_row rows.now (i + 1))) }
-{
-    let tag = word_at(rows, i, 0);
-    let rules = row_layout::under_rules(tag);
-    if rules == 0 {
-        return Scan::Next(i + 1);
-    }
-    if rules == 1 {
-        return scan_values(depth, store, rows, 1, i + 1);
-    }
-    let n = word_at(rows, i, row_layout::count_word(tag));
-    if rules == 3 {
-        return scan_entries(depth, store, rows, 1, n, i + 1);
-    }
-    if rules == 4 {
-        return scan_entries(depth, store, rows, 2, n, i + 1);
-    }
-    if rules == 5 {
-        return scan_untagged(depth, store, rows, 32, i + 1);
-    }
-    if rules == 6 {
-        return scan_fields(depth, store, rows, n, i + 1);
-    }
-    if rules == 7 {
-        return scan_template(depth, store, rows, n, i + 1);
-    }
-    scan_values(depth, store, rows, n, i + 1)
-}
-
-#[cycle(scan)]
-fn scan_values(depth: usize, store: &[u8], rows: &[u64], n: u64, i: usize) -> Scan
-    requires { WholeRows rows.now }
-    ensures { Scanned rows.now n i result (read_many n (scan_value store.now depth any_row) (at_row rows.now i)) }
-{
-    let mut at = i;
-    let mut k: u64 = 0;
-    while k < n {
-        match scan_value(depth, store, rows, at) {
-            Scan::Next(j) => {
-                at = j;
-            }
-            Scan::Bad(b) => {
-                return Scan::Bad(b);
-            }
-        }
-        k += 1;
-    }
-    Scan::Next(at)
-}
-
-// The entries of a set (width 1) or of a map (width 2).
-#[cycle(scan)]
-fn scan_entries(depth: usize, store: &[u8], rows: &[u64], width: u64, n: u64, i: usize) -> Scan
-    requires whole_rows { WholeRows rows.now }
-    requires le_width { (1 ≤ width) × (width ≤ 2) }
-    ensures { Scanned rows.now (width * n) i result (scan_entries width n [] (scan_value store.now depth) (at_row rows.now i)) }
-{
-    let mut at = i;
-    let mut k: u64 = 0;
-    while k < n {
+// Each function answers the row after what was scanned.
+impl Rows<'_> {
+    // A value with `depth` levels left.
+    #[cycle(scan)]
+    fn scan_value(&self, depth: usize, i: usize) -> Result<usize, BrokenRow>
+        ensures { Scanned self.now.words.now 1 i result (scan_value self.now.store.now depth any_row (at_row self.now.words.now i)) }
+    {
         if depth == 0 {
-            return Scan::Bad(at);
+            return Err(BrokenRow { row: i });
         }
-        if !is_new_key(store, rows, width, i, at) {
-            return Scan::Bad(at);
+        if self.count() <= i {
+            return Err(BrokenRow { row: i });
         }
-        match scan_values(depth, store, rows, width - 1, at + 1) {
-            Scan::Next(j) => {
-                at = j;
-            }
-            Scan::Bad(b) => {
-                return Scan::Bad(b);
-            }
+        if 26 < self.word_at(i, 0) {
+            return Err(BrokenRow { row: i });
         }
-        k += 1;
+        if !self.row_fits(i) {
+            return Err(BrokenRow { row: i });
+        }
+        self.scan_under(depth - 1, i)
     }
-    Scan::Next(at)
-}
 
-// A chunk row (32) or a field row (33), and what is under it.
-#[cycle(scan)]
-fn scan_untagged(depth: usize, store: &[u8], rows: &[u64], tag: u64, i: usize) -> Scan
-    requires whole_rows { WholeRows rows.now }
-    requires le_tag { (32 ≤ tag) × (tag ≤ 33) }
-    ensures { Scanned rows.now 1 i result (scan_chunk_or_field store.now (scan_value store.now depth) tag (at_row rows.now i)) }
-{
-    if !head_fits(store, rows, tag, i) {
-        return Scan::Bad(i);
-    }
-    if tag == 32 {
-        return scan_values(depth, store, rows, word_at(rows, i, 3), i + 1);
-    }
-    scan_values(depth, store, rows, 1, i + 1)
-}
-
-#[cycle(scan)]
-fn scan_fields(depth: usize, store: &[u8], rows: &[u64], n: u64, i: usize) -> Scan
-    requires { WholeRows rows.now }
-    ensures { Scanned rows.now n i result (read_many n (scan_field store.now (scan_value store.now depth)) (at_row rows.now i)) }
-{
-    let mut at = i;
-    let mut k: u64 = 0;
-    while k < n {
-        match scan_untagged(depth, store, rows, 33, at) {
-            Scan::Next(j) => {
-                at = j;
-            }
-            Scan::Bad(b) => {
-                return Scan::Bad(b);
-            }
+    // The rows under row i, by its rules.
+    #[cycle(scan)]
+    fn scan_under(&self, depth: usize, i: usize) -> Result<usize, BrokenRow>
+        requires { i < row_count self.now.words.now }
+        ensures { Scanned self.now.words.now (rows_under self.now.words.now i) (i + 1) result
+            (scan_under self.now.store.now (scan_value self.now.store.now depth) (shape (tag_at self.now.words.now i)) (count_at self.now.words.now i) (at_row self.now.words.now (i + 1))) }
+    {
+        let tag = self.word_at(i, 0);
+        match row_layout::under_rules(tag) {
+            Rules::Nothing => Ok(i + 1),
+            Rules::OneValue => self.scan_many(depth, Member::Value, 1, i + 1),
+            Rules::Values => self.scan_many(depth, Member::Value, self.count_at(i), i + 1),
+            Rules::Keys => self.scan_entries(depth, 1, self.count_at(i), i + 1),
+            Rules::Pairs => self.scan_entries(depth, 2, self.count_at(i), i + 1),
+            Rules::Chunk => self.scan_many(depth, Member::Chunk, 1, i + 1),
+            Rules::Fields => self.scan_many(depth, Member::Field, self.count_at(i), i + 1),
+            Rules::Template => self.scan_template(depth, self.count_at(i), i + 1),
         }
-        k += 1;
     }
-    Scan::Next(at)
-}
 
-// A closure's function, and then its values.
-#[cycle(scan)]
-fn scan_template(depth: usize, store: &[u8], rows: &[u64], n: u64, i: usize) -> Scan
-    requires { WholeRows rows.now }
-    ensures { Scanned rows.now (n + 1) i result (scan_template (scan_value store.now depth) n (at_row rows.now i)) }
-{
-    if !is_tagged(rows, 7, i) {
-        return Scan::Bad(i);
+    // One row, and what is under it.
+    #[cycle(scan)]
+    fn scan_member(&self, depth: usize, member: Member, i: usize) -> Result<usize, BrokenRow>
+        ensures { Scanned self.now.words.now 1 i result (scan_member self.now.store.now (scan_value self.now.store.now depth) member (at_row self.now.words.now i)) }
+    {
+        match member {
+            Member::Value => self.scan_value(depth, i),
+            Member::Chunk => self.scan_untagged(depth, 32, i),
+            Member::Field => self.scan_untagged(depth, 33, i),
+        }
     }
-    match scan_value(depth, store, rows, i) {
-        Scan::Next(j) => scan_values(depth, store, rows, n, j),
-        Scan::Bad(b) => Scan::Bad(b),
+
+    // So many rows, and what is under them.
+    #[cycle(scan)]
+    fn scan_many(&self, depth: usize, member: Member, n: u64, i: usize) -> Result<usize, BrokenRow>
+        ensures { Scanned self.now.words.now n i result (read_many n (scan_member self.now.store.now (scan_value self.now.store.now depth) member) (at_row self.now.words.now i)) }
+    {
+        let mut at = i;
+        for _ in 0..n {
+            at = self.scan_member(depth, member, at)?;
+        }
+        Ok(at)
+    }
+
+    // The entries of a set (width 1) or of a map (width 2).
+    #[cycle(scan)]
+    fn scan_entries(&self, depth: usize, width: u64, n: u64, i: usize) -> Result<usize, BrokenRow>
+        requires { (1 ≤ width) × (width ≤ 2) }
+        ensures { Scanned self.now.words.now (width * n) i result (scan_entries width n [] (scan_value self.now.store.now depth) (at_row self.now.words.now i)) }
+    {
+        let mut at = i;
+        for _ in 0..n {
+            if depth == 0 {
+                return Err(BrokenRow { row: at });
+            }
+            if !self.is_new_key(width, i, at) {
+                return Err(BrokenRow { row: at });
+            }
+            at = self.scan_many(depth, Member::Value, width - 1, at + 1)?;
+        }
+        Ok(at)
+    }
+
+    // A chunk row (32) or a field row (33), and what is under it.
+    #[cycle(scan)]
+    fn scan_untagged(&self, depth: usize, tag: u64, i: usize) -> Result<usize, BrokenRow>
+        requires { (32 ≤ tag) × (tag ≤ 33) }
+        ensures { Scanned self.now.words.now 1 i result (scan_chunk_or_field self.now.store.now (scan_value self.now.store.now depth) tag (at_row self.now.words.now i)) }
+    {
+        if !self.head_fits(tag, i) {
+            return Err(BrokenRow { row: i });
+        }
+        if tag == 32 {
+            return self.scan_many(depth, Member::Value, self.word_at(i, 3), i + 1);
+        }
+        self.scan_many(depth, Member::Value, 1, i + 1)
+    }
+
+    // A closure's function, and then its values.
+    #[cycle(scan)]
+    fn scan_template(&self, depth: usize, n: u64, i: usize) -> Result<usize, BrokenRow>
+        ensures { Scanned self.now.words.now (n + 1) i result (scan_template (scan_value self.now.store.now depth) n (at_row self.now.words.now i)) }
+    {
+        if !self.is_tagged(7, i) {
+            return Err(BrokenRow { row: i });
+        }
+        let values = self.scan_value(depth, i)?;
+        self.scan_many(depth, Member::Value, n, values)
     }
 }
 
 // ---- spans and line index
 
-// How many bytes of code row i has.
-fn code_length(rows: &[u64], i: usize) -> u64
-    requires { i < row_count rows.now }
-    ensures { result ≡ code_at rows.now i }
-{
-    if word_at(rows, i, 0) == 32 {
-        return word_at(rows, i, 2);
+impl Rows<'_> {
+    // How many bytes of code row i has.
+    fn code_length(&self, i: usize) -> u64
+        requires { i < row_count self.now.words.now }
+        ensures { result ≡ code_at self.now.words.now i }
+    {
+        if self.word_at(i, 0) == 32 {
+            return self.word_at(i, 2);
+        }
+        0
     }
-    0
-}
 
-// Whether the rows have `count` bytes of code in all.
-fn code_is(rows: &[u64], count: u64) -> bool
-    ensures { result ≡ eqb (code_total (row_count rows.now) rows.now) count }
-{
-    let mut left = count;
-    let mut i: usize = 0;
-    while i < rows.len() / Program::ROW_WIDTH {
-        let n = code_length(rows, i);
-        if left < n {
+    // Whether the rows have `count` bytes of code in all.
+    fn code_is(&self, count: u64) -> bool
+        ensures { result ≡ eqb (code_total (row_count self.now.words.now) self.now.words.now) count }
+    {
+        let mut left = count;
+        for i in 0..self.count() {
+            let n = self.code_length(i);
+            if left < n {
+                return false;
+            }
+            left -= n;
+        }
+        left == 0
+    }
+
+    // Whether there is a span for each byte of code, and every position is below 2^63.
+    fn spans_fit(&self, spans: &[u64]) -> bool
+        requires { length spans.now ≡ 2 * (length spans.now / 2) }
+        ensures { result ≡ spans_fit self.now.words.now spans.now }
+    {
+        if !self.code_is((spans.len() / 2) as u64) {
             return false;
         }
-        left = left - n;
-        i += 1;
-    }
-    left == 0
-}
-
-// Whether every position is below 2^63.
-fn spans_small(spans: &[u64]) -> bool
-    requires { length spans.now ≡ 2 * (length spans.now / 2) }
-    ensures { result ≡ small_spans (spans_of spans.now) }
-{
-    let mut i: usize = 0;
-    while i < spans.len() / 2 {
-        if 0x8000_0000_0000_0000 <= spans[2 * i] {
-            return false;
+        // Two words at a turn: `all` over the words takes a quarter longer.
+        for i in 0..spans.len() / 2 {
+            if 0x8000_0000_0000_0000 <= spans[2 * i] {
+                return false;
+            }
+            if 0x8000_0000_0000_0000 <= spans[2 * i + 1] {
+                return false;
+            }
         }
-        if 0x8000_0000_0000_0000 <= spans[2 * i + 1] {
-            return false;
-        }
-        i += 1;
+        true
     }
-    true
-}
-
-fn spans_fit(rows: &[u64], spans: &[u64]) -> bool
-    requires { length spans.now ≡ 2 * (length spans.now / 2) }
-    ensures { result ≡ spans_fit rows.now spans.now }
-{
-    if !code_is(rows, (spans.len() / 2) as u64) {
-        return false;
-    }
-    spans_small(spans)
-}
-
-fn wide(x: u32) -> u64
-    ensures { (result ≡ x) × (result < 4294967296) }
-{
-    x as u64
-}
-
-// Starts are 32 bits: a look at one tells so of all.
-fn starts_fit(starts: &[u32]) -> bool
-    ensures { (result ≡ true) × (all_starts starts.now ≡ true) }
-{
-    if starts.len() == 0 {
-        return true;
-    }
-    wide(starts[0]) < 4294967296
 }
 
 // The name and the starts where the flag is 1; neither where it is 0.
 fn line_sound(store: &[u8], starts: &[u32], flag: u64, name_o: usize, name_n: usize) -> bool
     ensures { result ≡ line_sound (tables store.now [] [] starts.now flag name_o name_n) }
 {
-    if flag == 0 {
-        return ((name_o == 0) & (name_n == 0)) & (starts.len() == 0);
+    match flag {
+        0 => name_o == 0 && name_n == 0 && starts.is_empty(),
+        1 => utf8::part_is_utf8(store, name_o, name_n),
+        _ => false,
     }
-    if flag != 1 {
-        return false;
-    }
-    if !starts_fit(starts) {
-        return false;
-    }
-    utf8::part_is_utf8(store, name_o, name_n)
 }
 
 // ---- the whole scan
 
 // Whether the tables hold a sound program; if not, the first row that breaks a rule, or the row count where it is spans or line index.
-pub fn scan_tables(
-    store: &[u8],
-    rows: &[u64],
-    spans: &[u64],
-    starts: &[u32],
-    flag: u64,
-    name_o: usize,
-    name_n: usize,
-) -> Soundness
-    requires whole_rows { WholeRows rows.now }
-    requires spans_len { length spans.now ≡ 2 * (length spans.now / 2) }
-    ensures { Answers result (script_of (tables store.now rows.now spans.now starts.now flag name_o name_n)) }
+pub fn scan_tables(tables: Tables<'_>) -> Result<(), BrokenRow>
+    requires whole_rows { WholeRows tables.rows.now }
+    requires spans_len { length tables.spans.now ≡ 2 * (length tables.spans.now / 2) }
+    ensures { Answers result (script_in tables.entry) }
 {
-    match scan_untagged(Program::DEPTH, store, rows, 32, 0) {
-        Scan::Next(j) => {
-            if j < rows.len() / Program::ROW_WIDTH {
-                return Soundness::Unsound(j);
-            }
-            if !spans_fit(rows, spans) {
-                return Soundness::Unsound(j);
-            }
-            if !line_sound(store, starts, flag, name_o, name_n) {
-                return Soundness::Unsound(j);
-            }
-            Soundness::Sound
-        }
-        Scan::Bad(k) => Soundness::Unsound(k),
+    let rows = Rows {
+        store: tables.store,
+        words: tables.rows,
+    };
+    let end = rows.scan_untagged(Program::DEPTH, 32, 0)?;
+    if end < rows.count() {
+        return Err(BrokenRow { row: end });
     }
+    if !rows.spans_fit(tables.spans) {
+        return Err(BrokenRow { row: end });
+    }
+    let Tables {
+        store,
+        starts,
+        flag,
+        name_o,
+        name_n,
+        ..
+    } = tables;
+    if !line_sound(store, starts, flag, name_o, name_n) {
+        return Err(BrokenRow { row: end });
+    }
+    Ok(())
 }

@@ -1,5 +1,5 @@
 -- UTF-8 twice: `Utf8` is the grammar of RFC 3629, section 4, rule by rule, and `is_utf8` a test that computes in one pass; `Laws/Grammar.antt` has that they agree.
-use Rattle.std.specs.Prelude.{Bool, true, false, cond, ◌&&◌, ◌||◌, List, [], ◌∷◌, ◌++◌, ℕ, zero, suc, ◌+◌, ◌≤◌, leb, eqb, length, get_or, take, drop}
+use Rattle.std.specs.Prelude.{Bool, true, false, cond, ◌&&◌, ◌||◌, Option, None, Some, List, [], ◌∷◌, ◌++◌, ℕ, zero, suc, ◌+◌, ◌≤◌, leb, eqb, length, get_or, take, drop}
 
 -- b is one of lo to hi, as %xLO-HI of the grammar
 pub record In (lo hi b : ℕ) : Type 0 where
@@ -60,6 +60,14 @@ char_of a b c d = cond (is_one a) 1 (cond (is_two a b) 2 (cond (is_three a b c) 
 -- how many bytes the character at index i of s has; 0 where none stands there. Past the end stands 0, which is no tail
 abbrev pub char_at : List ℕ → ℕ → ℕ
 char_at s i = char_of (get_or s i 0) (get_or s (i + 1) 0) (get_or s (i + 2) 0) (get_or s (i + 3) 0)
+
+-- a width, where 0 stands for none
+unfoldable pub some_width : ℕ → Option ℕ
+some_width zero = None
+some_width (suc w) = Some (suc w)
+
+abbrev pub width_at : List ℕ → ℕ → Option ℕ
+width_at s i = some_width (char_at s i)
 
 -- the list is characters, once k bytes of the present one are passed
 unfoldable pub passes : ℕ → List ℕ → Bool

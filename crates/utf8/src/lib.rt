@@ -1,16 +1,17 @@
 // Whether bytes are UTF-8, by the grammar of RFC 3629, section 4.
 #![tactic(auto)]
 
-ghost use Rattle.std.specs.Prelude.{◌≡◌, true, ◌+◌, ◌≤◌, ◌<◌, length, get_or};
+ghost use Rattle.std.specs.Prelude.{◌≡◌, true, ℕ, ◌+◌, ◌≤◌, ◌<◌, length, get_or, take, drop};
+ghost use Rattle.std.specs.Fn.{FnReturnsAt};
 ghost use Rattle.utf8.specs.Pairs.{begins_two, begins_short, can_follow, Follows, whole_end};
 ghost use Rattle.utf8.specs.Skips.{Ascii, high_bits, Skips};
-ghost use Rattle.utf8.specs.Utf8.{is_tail, is_two, is_three, is_four, char_at, is_utf8, part_is_utf8};
+ghost use Rattle.utf8.specs.Utf8.{is_tail, is_two, is_three, is_four, width_at, is_utf8, part_is_utf8};
 
 // The byte at i, or 0 past the end.
 fn byte_at(s: &[u8], i: usize) -> u8
     ensures { result ≡ get_or s.now i 0 }
 {
-    if i < s.len() { s[i] } else { 0 }
+    s.get(i).copied().unwrap_or(0)
 }
 
 // Whether b is a UTF8-tail.
@@ -72,37 +73,28 @@ fn four(a: u8, b: u8, c: u8, d: u8) -> bool
     false
 }
 
-// How many bytes the character at i has, or 0 where none stands there.
-fn char_at(s: &[u8], i: usize) -> usize
+// How many bytes the character at i has, or None where none stands there.
+fn char_at(s: &[u8], i: usize) -> Option<usize>
     requires { i < length s.now }
-    ensures { result ≡ char_at s.now i }
+    ensures { result ≡ width_at s.now i }
 {
     let a = s[i];
     if a < 0x80 {
-        return 1;
+        return Some(1);
     }
     if a < 0xC2 {
-        return 0;
+        return None;
     }
     let b = byte_at(s, i + 1);
     if a < 0xE0 {
-        if tail(b) {
-            return 2;
-        }
-        return 0;
+        return tail(b).then_some(2);
     }
     let c = byte_at(s, i + 2);
     if a < 0xF0 {
-        if three(a, b, c) {
-            return 3;
-        }
-        return 0;
+        return three(a, b, c).then_some(3);
     }
     let d = byte_at(s, i + 3);
-    if four(a, b, c, d) {
-        return 4;
-    }
-    0
+    four(a, b, c, d).then_some(4)
 }
 
 // The high bits of the eight bytes at i, all 0 where these are ASCII.
@@ -113,15 +105,31 @@ fn high_bits(s: &[u8], i: usize) -> u64
     slices::word(s, i) & 0x8080_8080_8080_8080
 }
 
-// Whether the 32 bytes at i are ASCII; `false` says nothing. Without an exit between the words, so that it is one test.
-fn block_is_ascii(s: &[u8], i: usize) -> bool
-    requires { i + 32 ≤ length s.now }
-    ensures { result ≡ true → Ascii s.now i (i + 32) }
+// Whether the first 32 bytes are ASCII; `false` says nothing. Without an exit between the words, so that it is one test.
+fn block_is_ascii(block: &[u8]) -> bool
+    requires { 32 ≤ length block.now }
+    ensures { result ≡ true → Ascii block.now 0 32 }
 {
-    (high_bits(s, i) == 0)
-        & (high_bits(s, i + 8) == 0)
-        & (high_bits(s, i + 16) == 0)
-        & (high_bits(s, i + 24) == 0)
+    (high_bits(block, 0) == 0)
+        & (high_bits(block, 8) == 0)
+        & (high_bits(block, 16) == 0)
+        & (high_bits(block, 24) == 0)
+}
+
+// Past SIZE bytes at a time, for as long as they pass.
+fn skip_while<const SIZE: usize, F: Fn(&[u8]) -> bool>(s: &[u8], from: usize, passes: F) -> usize
+    requires sized { 0 < SIZE }
+    requires inside { from ≤ length s.now }
+    requires callable { (bytes : _) → length bytes.now ≡ SIZE → F.pre passes bytes }
+    requires whole { (i : ℕ) → i + SIZE ≤ length s.now → FnReturnsAt F.Fn passes (take SIZE (drop i s.now)) true → Skips s.now i (i + SIZE) }
+    ensures { Skips s.now from result }
+{
+    // `while`: `chunks_exact(SIZE).take_while(..).count()` is slower at runs of a few characters.
+    let mut i = from;
+    while SIZE <= s.len() - i && passes(&s[i..i + SIZE]) {
+        i += SIZE;
+    }
+    i
 }
 
 // Past ASCII by blocks of 32 bytes.
@@ -129,15 +137,7 @@ fn skip_blocks(s: &[u8], from: usize) -> usize
     requires { from ≤ length s.now }
     ensures { Skips s.now from result }
 {
-    let mut i = from;
-    while 32 <= s.len() - i {
-        if block_is_ascii(s, i) {
-            i += 32;
-        } else {
-            return i;
-        }
-    }
-    i
+    skip_while::<32, _>(s, from, block_is_ascii)
 }
 
 // Past ASCII by blocks and then by words. The last word ends where s ends, and may begin before the place.
@@ -145,19 +145,9 @@ fn skip_words(s: &[u8], from: usize) -> usize
     requires { from ≤ length s.now }
     ensures { Skips s.now from result }
 {
-    let mut i = skip_blocks(s, from);
-    while 8 <= s.len() - i {
-        if high_bits(s, i) == 0 {
-            i += 8;
-        } else {
-            return i;
-        }
-    }
-    if 8 <= s.len() {
-        let last = s.len() - 8;
-        if high_bits(s, last) == 0 {
-            return s.len();
-        }
+    let i = skip_while::<8, _>(s, skip_blocks(s, from), |word| high_bits(word, 0) == 0);
+    if s.len() - i < 8 && 8 <= s.len() && high_bits(s, s.len() - 8) == 0 {
+        return s.len();
     }
     i
 }
@@ -170,80 +160,25 @@ fn skip_ascii(s: &[u8], from: usize) -> usize
     if s.len() - from < 8 {
         return from;
     }
-    let n = (u64::trailing_zeros(high_bits(s, from)) / 8) as usize;
+    let n = (high_bits(s, from).trailing_zeros() / 8) as usize;
     if n < 8 {
         return from + n;
     }
     skip_words(s, from + 8)
 }
 
-// Past characters of two bytes.
-fn skip_two(s: &[u8], from: usize) -> usize
+// Past more characters of a width, since a script's characters come in runs; of three bytes only up to one that begins with E0 or ED, which
+// ask more of the second byte.
+fn skip_run(s: &[u8], from: usize, width: usize) -> usize
     requires { from ≤ length s.now }
     ensures { Skips s.now from result }
 {
-    let mut i = from;
-    while 2 <= s.len() - i {
-        if two(s[i], s[i + 1]) {
-            i += 2;
-        } else {
-            return i;
-        }
+    match width {
+        2 => skip_while::<2, _>(s, from, |c| two(c[0], c[1])),
+        3 => skip_while::<3, _>(s, from, |c| plain_three(c[0], c[1], c[2])),
+        4 => skip_while::<4, _>(s, from, |c| 0xF0 <= c[0] && four(c[0], c[1], c[2], c[3])),
+        _ => from,
     }
-    i
-}
-
-// Past characters of three bytes, up to one that begins with E0 or ED, which ask more of the second byte.
-fn skip_three(s: &[u8], from: usize) -> usize
-    requires { from ≤ length s.now }
-    ensures { Skips s.now from result }
-{
-    let mut i = from;
-    while 3 <= s.len() - i {
-        if plain_three(s[i], s[i + 1], s[i + 2]) {
-            i += 3;
-        } else {
-            return i;
-        }
-    }
-    i
-}
-
-// Past characters of four bytes.
-fn skip_four(s: &[u8], from: usize) -> usize
-    requires { from ≤ length s.now }
-    ensures { Skips s.now from result }
-{
-    let mut i = from;
-    while 4 <= s.len() - i {
-        let a = s[i];
-        if a < 0xF0 {
-            return i;
-        }
-        if four(a, s[i + 1], s[i + 2], s[i + 3]) {
-            i += 4;
-        } else {
-            return i;
-        }
-    }
-    i
-}
-
-// Past more characters of w bytes, since a script's characters come in runs.
-fn skip_run(s: &[u8], from: usize, w: usize) -> usize
-    requires { from ≤ length s.now }
-    ensures { Skips s.now from result }
-{
-    if w == 2 {
-        return skip_two(s, from);
-    }
-    if w == 3 {
-        return skip_three(s, from);
-    }
-    if w == 4 {
-        return skip_four(s, from);
-    }
-    from
 }
 
 // Whether a is a UTF8-1 or the first byte of a UTF8-2.
@@ -266,12 +201,9 @@ fn block_follows(s: &[u8], i: usize) -> bool
     requires { i + 16 < length s.now }
     ensures { result ≡ true → Follows s.now i (i + 16) }
 {
-    let end = i + 16;
     let mut all = true;
-    let mut k = i;
-    while k < end {
+    for k in i..i + 16 {
         all = all & can_follow(s[k], s[k + 1]);
-        k += 1;
     }
     all
 }
@@ -298,7 +230,7 @@ fn skip_pairs(s: &[u8], from: usize) -> usize
     let last = s.len() - 17;
     let mut i = from;
     while i < s.len() - 1 {
-        let at = if i < last { i } else { last };
+        let at = i.min(last);
         if !block_follows(s, at) {
             return whole_end(s, i);
         }
@@ -329,11 +261,10 @@ pub fn is_utf8(s: &[u8]) -> bool
         if s[i] < 0x80 {
             i = skip_ascii(s, i + 1);
         } else {
-            let w = char_at(s, i);
-            if w == 0 {
+            let Some(width) = char_at(s, i) else {
                 return false;
-            }
-            i = skip_run(s, i + w, w);
+            };
+            i = skip_run(s, i + width, width);
         }
     }
     true

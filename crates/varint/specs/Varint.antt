@@ -1,7 +1,17 @@
 -- Reading a number in ULEB128 with RLC2's limits: at most ten bytes, padding accepted, and the number kept modulo 2 ^ 64.
-use Rattle.std.specs.Prelude.{cond, List, [], ◌∷◌, ℕ, zero, suc, ◌+◌, ◌*◌, ◌%◌, ◌^◌, ltb, drop}
-use Rattle.varint.specs.declared.Varint.{Varint}
-use Rattle.varint.specs.declared.Varint.TheVariants.{Number, Refused}
+use Rattle.std.specs.Prelude.{cond, List, [], ◌∷◌, ℕ, zero, suc, ◌+◌, ◌*◌, ◌%◌, ◌^◌, ltb, drop, Result, Ok, Err}
+use Rattle.refusal.specs.Number.{number}
+use Rattle.refusal.specs.declared.Refusal.{Refusal}
+
+-- what reading a varint finds: the number and the place after it, or the refusal's number and its place
+pub data Varint : Type 0 where
+  Number : ℕ → ℕ → Varint
+  Refused : ℕ → ℕ → Varint
+
+-- what a result of the code says
+abbrev pub varint_answer : Result (ℕ × ℕ) Refusal → Varint
+varint_answer (Ok r) = Number r.0 r.1
+varint_answer (Err e) = Refused (number e.reason) e.place
 
 -- a group of seven bits below a number that was read
 abbrev pub under : ℕ → Varint → Varint

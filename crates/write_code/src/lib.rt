@@ -1,106 +1,113 @@
 // A chunk's code, and its spans as maximal runs.
 #![tactic(auto)]
 
-ghost use Rattle.std.specs.Prelude.{◌≡◌, ◌+◌, ◌/◌, ◌^◌, ◌<◌, ◌≤◌, true, [], ◌∷◌, ◌++◌, length, pos, ◌-ℤ◌, if◌then◌else◌};
+ghost use Rattle.std.specs.Prelude.{◌≡◌, ◌+◌, ◌*◌, ◌/◌, ◌^◌, ◌<◌, ◌≤◌, true, [], ◌∷◌, ◌++◌, length, slice_index, pos, ◌-ℤ◌, if◌then◌else◌};
 ghost use Rattle.varint.specs.Uleb128.{uleb128};
 ghost use Rattle.signed.specs.Signed.{zigzag_of};
 ghost use Rattle.payload.specs.Spans.{same_span, write_delta, runs_of, write_runs};
 ghost use Rattle.payload.specs.Sound.{spans_of};
-ghost use Rattle.emit.specs.Emit.{Ready, Emitted};
+ghost use Rattle.emit.specs.Emits.{Emits};
 ghost use Rattle.write_code.specs.Runs.{Positions, span, span_at, leading_trues, RunEnd};
 
-// The code length and the code.
-pub fn write_code(comparing: bool, payload: &[u8], out: &mut [u8], code: &[u8]) -> usize
-    requires { Ready comparing out.old 0 }
-    ensures { Emitted comparing payload.now out.old out.new 0 result (uleb128 (length code.now) ++ code.now) }
-{
-    let at = emit::emit_varint(comparing, payload, out, 0, code.len() as u64);
-    emit::emit_body(comparing, payload, out, at, code)
+use emit::Emitter;
+use emit::parts::Part;
+
+// A chunk's code, with its length.
+#[derive(Clone, Copy)]
+pub struct Code<'a> {
+    pub code: &'a [u8],
 }
 
-// The signed difference of two positions, by zigzag.
-fn zigzag_delta(old: u64, new: u64) -> u64
-    requires { (old < 2 ^ 63) × (new < 2 ^ 63) }
-    ensures { result ≡ zigzag_of (pos new -ℤ pos old) }
-{
-    signed::zigzag(new as i64 - old as i64)
-}
+impl Part for Code<'_> {
+    ghost bytes = { λ c. uleb128 (length c.code.now) ++ c.code.now };
 
-pub fn write_delta(
-    comparing: bool,
-    payload: &[u8],
-    out: &mut [u8],
-    at: usize,
-    old: u64,
-    new: u64,
-) -> usize
-    requires ready { Ready comparing out.old at }
-    requires bound { (old < 2 ^ 63) × (new < 2 ^ 63) }
-    ensures { Emitted comparing payload.now out.old out.new at result (write_delta old new) }
-{
-    emit::emit_varint(comparing, payload, out, at, zigzag_delta(old, new))
-}
-
-// Counts a run for each span that differs from the next, and one for the last span.
-fn count_runs(spans: &[u64]) -> usize
-    ensures { result ≡ length (runs_of (spans_of spans.now)) }
-{
-    let count = spans.len() / 2;
-    if count == 0 {
-        return 0;
+    fn emit(&self, emitter: &mut Emitter) {
+        emitter.varint(self.code.len() as u64);
+        emitter.body(self.code);
     }
-    let last = count - 1;
-    let mut n: usize = 1;
-    let mut k: usize = 0;
-    while k < last {
-        if (spans[2 * k] != spans[2 * k + 2]) | (spans[2 * k + 1] != spans[2 * k + 3]) {
-            n += 1;
+}
+
+// A position of a sound program.
+#[derive(Clone, Copy)]
+pub struct Position {
+    pub offset: u64,
+    pub ghost small: { offset < 2 ^ 63 },
+}
+
+impl From<u32> for Position {
+    ghost from_gives = { λ n p. p.offset ≡ n };
+
+    fn from(n: u32) -> Position {
+        Position {
+            offset: u64::from(n),
         }
-        k += 1;
     }
-    n
 }
 
-// The three numbers of a run of n spans a, b after a run of spans start, end.
-fn write_run(
-    comparing: bool,
-    payload: &[u8],
-    out: &mut [u8],
-    at: usize,
-    start: u64,
-    end: u64,
-    a: u64,
-    b: u64,
-    n: u64,
-) -> usize
-    requires ready { Ready comparing out.old at }
-    requires start_bound { (start < 2 ^ 63) × ((end < 2 ^ 63) × ((a < 2 ^ 63) × (b < 2 ^ 63))) }
-    ensures { Emitted comparing payload.now out.old out.new at result ((write_delta start a ++ write_delta end b) ++ uleb128 n) }
+impl Position {
+    // The signed difference to another position, by zigzag.
+    fn delta_to(self, new: Position) -> u64
+        ensures { result ≡ zigzag_of (pos new.offset -ℤ pos self.offset) }
+    {
+        signed::zigzag(new.offset as i64 - self.offset as i64)
+    }
+
+    fn delta_width(self, new: Position) -> usize
+        ensures { (result ≡ length (write_delta self.offset new.offset)) × (result ≤ 10) }
+    {
+        width(self.delta_to(new))
+    }
+
+    // Whether a delta is from -64 to 63: it has one byte then.
+    fn is_near(self, new: Position) -> bool
+        ensures { result ≡ true → length (write_delta self.offset new.offset) ≡ 1 }
+    {
+        std::num::wrapping_sub_u64(new.offset + 64, self.offset) < 128
+    }
+}
+
+pub fn write_delta(emitter: &mut Emitter, old: Position, new: Position)
+    ensures { Emits emitter.old emitter.new (write_delta old.offset new.offset) }
 {
-    emit::emit_three_varints(
-        comparing,
-        payload,
-        out,
-        at,
-        zigzag_delta(start, a),
-        zigzag_delta(end, b),
+    emitter.varint(old.delta_to(new));
+}
+
+#[derive(Clone, Copy)]
+struct Span {
+    start: Position,
+    end: Position,
+}
+
+impl Span {
+    // From here the first span's deltas are taken.
+    fn origin() -> Span
+        ensures { (result.start.offset ≡ 0) × (result.end.offset ≡ 0) }
+    {
+        let zero = Position::from(0);
+        Span {
+            start: zero,
+            end: zero,
+        }
+    }
+}
+
+// The three numbers of a run of n times a span, after a run of the last one.
+fn write_run(emitter: &mut Emitter, last: Span, next: Span, n: u64)
+    ensures { Emits emitter.old emitter.new
+        ((write_delta last.start.offset next.start.offset ++ write_delta last.end.offset next.end.offset) ++ uleb128 n) }
+{
+    emitter.three_varints(
+        last.start.delta_to(next.start),
+        last.end.delta_to(next.end),
         n,
-    )
-}
-
-// Whether span k is a, b. Both words are compared, so that there is no branch between them.
-fn is_span(spans: &[u64], k: usize, a: u64, b: u64) -> bool
-    requires { k < length spans.now / 2 }
-    ensures { result ≡ same_span (span a b) (span_at spans.now k) }
-{
-    (a == spans[2 * k]) & (b == spans[2 * k + 1])
+    );
 }
 
 // A test as a number to add.
 fn one_if(test: bool) -> usize
     ensures { (result ≡ (if test then 1 else 0)) × (result ≤ 1) }
 {
-    if test { 1 } else { 0 }
+    usize::from(test)
 }
 
 // How many of four tests are true before the first that is false. A sum, so that there is no branch on a test.
@@ -108,35 +115,6 @@ fn leading_trues(p: bool, q: bool, r: bool, s: bool) -> usize
     ensures { (result ≡ leading_trues (p ∷ q ∷ r ∷ s ∷ [])) × (result ≤ 4) }
 {
     one_if(p) + one_if(p & q) + one_if((p & q) & r) + one_if(((p & q) & r) & s)
-}
-
-// The span after the run that begins with span k, which is a, b. The first four followers are compared without a branch, as their outcome cannot be
-// foreseen; only a run that has all four is walked span by span.
-fn run_end(spans: &[u64], k: usize, a: u64, b: u64) -> usize
-    requires { k < length spans.now / 2 }
-    ensures { RunEnd spans.now (span a b) k result }
-{
-    let count = spans.len() / 2;
-    let mut l = k + 1;
-    if 5 <= count - k {
-        let n = leading_trues(
-            is_span(spans, k + 1, a, b),
-            is_span(spans, k + 2, a, b),
-            is_span(spans, k + 3, a, b),
-            is_span(spans, k + 4, a, b),
-        );
-        l = k + 1 + n;
-        if n < 4 {
-            return l;
-        }
-    }
-    while l < count {
-        if !is_span(spans, l, a, b) {
-            return l;
-        }
-        l += 1;
-    }
-    l
 }
 
 // The one number or the other. A choice of values, so that there is no branch on the test.
@@ -153,99 +131,140 @@ fn width(n: u64) -> usize
     varint::uvarint_width(n)
 }
 
-fn delta_width(old: u64, new: u64) -> usize
-    requires { (old < 2 ^ 63) × (new < 2 ^ 63) }
-    ensures { (result ≡ length (write_delta old new)) × (result ≤ 10) }
-{
-    width(zigzag_delta(old, new))
-}
-
-// Whether a delta is from -64 to 63: it has one byte then.
-fn is_near(old: u64, new: u64) -> bool
-    requires { (old < 2 ^ 63) × (new < 2 ^ 63) }
-    ensures { result ≡ true → length (write_delta old new) ≡ 1 }
-{
-    std::num::wrapping_sub_u64(new + 64, old) < 128
-}
-
-// Where a run of n spans a, b ends and one of spans c, d begins: how many bytes the count of the one and the deltas of the other have. Most have one each,
+// Where a run of n times the last span ends and the next begins: how many bytes the count of the one and the deltas of the other have. Most have one each,
 // and then there is no branch on whether a run ends.
-fn boundary_width(ends: bool, n: u64, a: u64, b: u64, c: u64, d: u64) -> usize
-    requires { ((a < 2 ^ 63) × (c < 2 ^ 63)) × ((b < 2 ^ 63) × (d < 2 ^ 63)) }
-    ensures { (result ≡ (if ends then length (uleb128 n) + (length (write_delta a c) + length (write_delta b d)) else 0)) × (result ≤ 30) }
+fn boundary_width(ends: bool, n: u64, last: Span, next: Span) -> usize
+    ensures { (result ≡ (if ends then length (uleb128 n) + (length (write_delta last.start.offset next.start.offset) + length (write_delta last.end.offset next.end.offset)) else 0))
+        × (result ≤ 30) }
 {
-    if (is_near(a, c) & is_near(b, d)) & (n < 128) {
+    if (last.start.is_near(next.start) & last.end.is_near(next.end)) & (n < 128) {
         return 3 * one_if(ends);
     }
     if ends {
-        return width(n) + (delta_width(a, c) + delta_width(b, d));
+        return width(n) + (last.start.delta_width(next.start) + last.end.delta_width(next.end));
     }
     0
 }
 
-// How many bytes the run count and the runs have, in one pass over the spans.
-fn runs_length(spans: &[u64]) -> usize
-    requires { Positions spans.now }
-    ensures { result ≡ length (write_runs (spans_of spans.now)) }
-{
-    let count = spans.len() / 2;
-    if count == 0 {
-        return 1;
-    }
-    let mut a = spans[0];
-    let mut b = spans[1];
-    let mut runs: usize = 1;
-    let mut begun: usize = 0;
-    let mut length = delta_width(0, a) + delta_width(0, b);
-    let mut k: usize = 1;
-    while k < count {
-        let ends = !is_span(spans, k, a, b);
-        let c = spans[2 * k];
-        let d = spans[2 * k + 1];
-        length += boundary_width(ends, (k - begun) as u64, a, b, c, d);
-        runs += one_if(ends);
-        begun = either(ends, k, begun);
-        a = c;
-        b = d;
-        k += 1;
-    }
-    width(runs as u64) + (length + width((count - begun) as u64))
+// The runs of a chunk's spans. A span has two words, which are positions.
+#[derive(Clone, Copy)]
+pub struct Runs<'a> {
+    pub spans: &'a [u64],
+    pub ghost positions: { Positions spans.now },
 }
 
-// The run count and the runs. Where there is no output only their length counts.
-pub fn write_runs(comparing: bool, payload: &[u8], out: &mut [u8], spans: &[u64]) -> usize
-    requires ready { Ready comparing out.old 0 }
-    requires positions { Positions spans.now }
-    ensures { Emitted comparing payload.now out.old out.new 0 result (write_runs (spans_of spans.now)) }
-{
-    if !comparing {
-        if out.len() == 0 {
-            return emit::advance(0, runs_length(spans));
+impl Runs<'_> {
+    // Counts a run for each span that differs from the next, and one for the last span.
+    fn count(&self) -> usize
+        ensures { result ≡ length (runs_of (spans_of self.now.spans.now)) }
+    {
+        let spans = self.spans;
+        let count = spans.len() / 2;
+        if count == 0 {
+            return 0;
+        }
+        let mut n: usize = 1;
+        for k in 0..count - 1 {
+            if (spans[2 * k] != spans[2 * k + 2]) | (spans[2 * k + 1] != spans[2 * k + 3]) {
+                n += 1;
+            }
+        }
+        n
+    }
+
+    fn span(&self, k: usize) -> Span
+        requires { k < length self.now.spans.now / 2 }
+        ensures { (result.start.offset ≡ slice_index self.now.spans.now (2 * k)) × (result.end.offset ≡ slice_index self.now.spans.now (2 * k + 1)) }
+    {
+        Span {
+            start: Position {
+                offset: self.spans[2 * k],
+            },
+            end: Position {
+                offset: self.spans[2 * k + 1],
+            },
         }
     }
-    let count = spans.len() / 2;
-    let mut at = emit::emit_varint(comparing, payload, out, 0, count_runs(spans) as u64);
-    let mut start: u64 = 0;
-    let mut end: u64 = 0;
-    let mut k: usize = 0;
-    while k < count {
-        let a = spans[2 * k];
-        let b = spans[2 * k + 1];
-        let l = run_end(spans, k, a, b);
-        at = write_run(
-            comparing,
-            payload,
-            out,
-            at,
-            start,
-            end,
-            a,
-            b,
-            (l - k) as u64,
-        );
-        start = a;
-        end = b;
-        k = l;
+
+    // Whether span k is this one. Both words are compared, so that there is no branch between them.
+    fn has_at(&self, k: usize, s: Span) -> bool
+        requires { k < length self.now.spans.now / 2 }
+        ensures { result ≡ same_span (span s.start.offset s.end.offset) (span_at self.now.spans.now k) }
+    {
+        (s.start.offset == self.spans[2 * k]) & (s.end.offset == self.spans[2 * k + 1])
     }
-    at
+
+    // The span after the run of s that begins with span k. The first four followers are compared without a branch, as their outcome cannot be
+    // foreseen; only a run that has all four is walked span by span.
+    fn run_end(&self, k: usize, s: Span) -> usize
+        requires { k < length self.now.spans.now / 2 }
+        ensures { RunEnd self.now.spans.now (span s.start.offset s.end.offset) k result }
+    {
+        let count = self.spans.len() / 2;
+        let mut l = k + 1;
+        if 5 <= count - k {
+            let n = leading_trues(
+                self.has_at(k + 1, s),
+                self.has_at(k + 2, s),
+                self.has_at(k + 3, s),
+                self.has_at(k + 4, s),
+            );
+            l = k + 1 + n;
+            if n < 4 {
+                return l;
+            }
+        }
+        for next in l..count {
+            if !self.has_at(next, s) {
+                return next;
+            }
+        }
+        count
+    }
+
+    // How many bytes the run count and the runs have, in one pass over the spans.
+    fn length(&self) -> usize
+        ensures { result ≡ length (write_runs (spans_of self.now.spans.now)) }
+    {
+        let count = self.spans.len() / 2;
+        if count == 0 {
+            return 1;
+        }
+        let mut last = self.span(0);
+        let mut runs: usize = 1;
+        let mut begun: usize = 0;
+        let origin = Span::origin();
+        let mut length = origin.start.delta_width(last.start) + origin.end.delta_width(last.end);
+        for k in 1..count {
+            let ends = !self.has_at(k, last);
+            let next = self.span(k);
+            length += boundary_width(ends, (k - begun) as u64, last, next);
+            runs += one_if(ends);
+            begun = either(ends, k, begun);
+            last = next;
+        }
+        width(runs as u64) + (length + width((count - begun) as u64))
+    }
+}
+
+impl Part for Runs<'_> {
+    ghost bytes = { λ r. write_runs (spans_of r.spans.now) };
+
+    // The run count and the runs. Where they are only measured their length is enough.
+    fn emit(&self, emitter: &mut Emitter) {
+        if emitter.only_measures() {
+            return emitter.advance(self.length());
+        }
+        emitter.varint(self.count() as u64);
+        let count = self.spans.len() / 2;
+        let mut last = Span::origin();
+        let mut k: usize = 0;
+        while k < count {
+            let next = self.span(k);
+            let end = self.run_end(k, next);
+            write_run(emitter, last, next, (end - k) as u64);
+            last = next;
+            k = end;
+        }
+    }
 }

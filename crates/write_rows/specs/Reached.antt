@@ -1,6 +1,7 @@
 -- What the functions of the walk are asked, and what they did.
-use Rattle.std.specs.Prelude.{Bool, true, List, ◌≡◌, ℕ, ◌≤◌}
-use Rattle.emit.specs.Emit.{Emitted}
+use Rattle.std.specs.Prelude.{true, List, ◌≡◌, ℕ, ◌≤◌}
+use Rattle.emit.specs.Emits.{Emits}
+use Rattle.emit.specs.declared.Emitter.{Emitter}
 use Rattle.pool_index.specs.Strings.{pool_strings, distinct}
 use Rattle.write_code.specs.Runs.{Positions}
 use Rattle.write_rows.specs.Walk.{Walked}
@@ -11,9 +12,9 @@ pub record Writable (store pool spans : List ℕ) : Type 0 where
   pub once : distinct (pool_strings store pool) ≡ true
   pub small : Positions spans
 
--- the bytes of w led from the place s to the place r, and the row and the span after them are those of w; the spans are so many
-pub record Reached (comparing : Bool) (p o o' : List ℕ) (many : ℕ) (s r : Place) (w : Walked) : Type 0 where
-  pub wrote : Emitted comparing p o o' s.at r.at w.bytes
+-- the bytes of w were emitted on the way from the place s to the place r, and the row and the span after them are those of w; the spans are so many
+pub record Reached (e e' : Emitter) (many : ℕ) (s r : Place) (w : Walked) : Type 0 where
+  pub wrote : Emits e e' w.bytes
   pub row : r.row ≡ w.row
   pub span : r.span ≡ w.span
   pub within : r.span ≤ many

@@ -1,56 +1,41 @@
 // The payload of a program in tables, written, measured or compared by one walk over its rows. The row table is lent to its last used row.
 #![tactic(auto)]
 
-ghost use Rattle.std.specs.Prelude.{◌≡◌, true, [], ◌∷◌, ◌++◌, ◌+◌, ◌*◌, ◌/◌, ◌^◌, ◌≤◌, ◌<◌, length, drop};
+ghost use Rattle.std.specs.Prelude.{◌≡◌, is_some, true, [], ◌∷◌, ◌++◌, ◌+◌, ◌-◌, ◌*◌, ◌/◌, ◌≤◌, ◌<◌, length, take, drop};
 ghost use Rattle.slices.specs.Same.{same};
 ghost use Rattle.varint.specs.Uleb128.{uleb128};
 ghost use Rattle.payload.specs.Numbers.{zigzag_word};
 ghost use Rattle.payload.specs.Pool.{index_of};
-ghost use Rattle.payload.specs.Spans.{write_code, write_runs};
+ghost use Rattle.payload.specs.Spans.{write_code};
 ghost use Rattle.payload.specs.Sound.{spans_of};
-ghost use Rattle.payload.specs.Rows.{row_width};
 ghost use Rattle.payload.specs.Tables.{size_limit};
 ghost use Rattle.payload.specs.Writing.{tag_byte, write_starts};
-ghost use Rattle.emit.specs.Emit.{further, Ready, Emitted};
-ghost use Rattle.pool_index.specs.Strings.{bytes_at, pool_strings, distinct, write_pool};
+ghost use Rattle.emit.specs.Emit.{further, output_limit, Emitted};
+ghost use Rattle.emit.specs.Expected.{bytes_of};
+ghost use Rattle.emit.specs.Emits.{Emits};
+ghost use Rattle.pool_index.specs.Held.{strings_of};
+ghost use Rattle.pool_index.specs.Strings.{bytes_at, distinct};
 ghost use Rattle.row_layout.specs.Layout.{under_form};
 ghost use Rattle.write_code.specs.Runs.{Positions};
-ghost use Rattle.write_rows.specs.Walk.{held, row_count, row_word, item_bytes, items_bytes, head_bytes, span_after, rows_under, walk_row, walk};
-ghost use Rattle.write_rows.specs.Payload.{line_bytes, payload_bytes, walk_depth, WrittenOut};
-ghost use Rattle.write_rows.specs.Reached.{Writable, Reached};
+ghost use Rattle.write_rows.specs.Held.{CanWrite, tables_bytes};
+ghost use Rattle.write_rows.specs.Payload.{line_bytes, WrittenOut};
+ghost use Rattle.write_rows.specs.Walk.{row_count, row_word, item_bytes, items_bytes, head_bytes, span_after, rows_under, walk_row, walk};
 
-use payload::Program;
+use emit::Emitter;
+use emit::parts::{Part, emit_part};
+use payload::{Program, Tables};
+use pool_index::Pool;
+use write_code::{Code, Position, Runs};
 
 // A value is a row, or a row and one that has no value of its own; the outer chunk is one more.
 const WALK_DEPTH: usize = 2 * Program::DEPTH + 1;
 
-// The next row, the next span, the place in the payload, and the pool index that the next string is expected to have.
+// The next row, the next span, and the pool index that the next string is expected to have.
 #[derive(Clone, Copy)]
 struct Place {
     row: usize,
     span: usize,
-    at: usize,
     expected: usize,
-}
-
-// The place in the payload, and the pool index expected next.
-#[derive(Clone, Copy)]
-struct Step {
-    at: usize,
-    expected: usize,
-}
-
-// ---- a row's items
-
-fn word_at(rows: &[u64], i: usize, k: u64) -> u64
-    requires { i < row_count rows.now }
-    ensures { result ≡ row_word rows.now i k }
-{
-    let word = k as usize;
-    if word < Program::ROW_WIDTH {
-        return rows[Program::ROW_WIDTH * i + word];
-    }
-    0
 }
 
 fn zigzag_word(w: u64) -> u64
@@ -60,741 +45,413 @@ fn zigzag_word(w: u64) -> u64
 }
 
 // Chunk and field rows have no tag byte.
-fn write_tag(comparing: bool, payload: &[u8], out: &mut [u8], at: usize, tag: u64) -> usize
-    requires { Ready comparing out.old at }
-    ensures { Emitted comparing payload.now out.old out.new at result (tag_byte tag) }
+fn write_tag(emitter: &mut Emitter, tag: u64)
+    ensures { Emits emitter.old emitter.new (tag_byte tag) }
 {
     if tag <= 26 {
-        return emit::emit_byte(comparing, payload, out, at, tag as u8);
+        emitter.byte(tag as u8);
     }
-    at
 }
 
 // Code and runs, each into the part of the output that begins where the last part ended.
-fn lend_code(comparing: bool, payload: &[u8], out: &mut [u8], at: usize, code: &[u8]) -> usize
-    requires { Ready comparing out.old at }
-    ensures { Emitted comparing payload.now out.old out.new at result (uleb128 (length code.now) ++ code.now) }
+fn write_chunk(emitter: &mut Emitter, code: &[u8], spans: Runs)
+    ensures { Emits emitter.old emitter.new (write_code code.now (spans_of spans.entry.spans.now)) }
 {
-    let o = emit::least(at, out.len());
-    let p = emit::least(at, payload.len());
-    let n = write_code::write_code(comparing, &payload[p..], &mut out[o..], code);
-    emit::advance(at, n)
-}
-
-fn lend_runs(comparing: bool, payload: &[u8], out: &mut [u8], at: usize, spans: &[u64]) -> usize
-    requires ready { Ready comparing out.old at }
-    requires positions { Positions spans.now }
-    ensures { Emitted comparing payload.now out.old out.new at result (write_runs (spans_of spans.now)) }
-{
-    let o = emit::least(at, out.len());
-    let p = emit::least(at, payload.len());
-    let n = write_code::write_runs(comparing, &payload[p..], &mut out[o..], spans);
-    emit::advance(at, n)
-}
-
-fn write_chunk(
-    comparing: bool,
-    payload: &[u8],
-    out: &mut [u8],
-    at: usize,
-    code: &[u8],
-    spans: &[u64],
-) -> usize
-    requires ready { Ready comparing out.old at }
-    requires positions { Positions spans.now }
-    ensures { Emitted comparing payload.now out.old out.new at result (write_code code.now (spans_of spans.now)) }
-{
-    let runs = lend_code(comparing, payload, out, at, code);
-    lend_runs(comparing, payload, out, runs, spans)
+    emitter.part(&Code { code });
+    emitter.part(&spans);
 }
 
 // Strings come in the pool's order: after the one that was expected the next is.
 fn expect_next(expected: usize, found: usize) -> usize {
-    if found == expected {
-        if expected < Program::SIZE {
-            return expected + 1;
-        }
+    if found == expected && expected < Program::SIZE {
+        return expected + 1;
     }
     expected
 }
 
-// A string's index. Past the output only its length counts: among at most 127 strings every index has one byte, and is not looked for.
-fn write_index(
-    comparing: bool,
-    payload: &[u8],
-    out: &mut [u8],
-    st: Step,
-    store: &[u8],
-    pool: &[u64],
-    o: u64,
-    n: u64,
-) -> Step
-    requires ready { Ready comparing out.old st.at }
-    requires pool_value { distinct (pool_strings store.now pool.now) ≡ true }
-    ensures { Emitted comparing payload.now out.old out.new st.at result.at (uleb128 (index_of (bytes_at store.now o n) (pool_strings store.now pool.now))) }
+// An item that is neither a string nor code, by its form.
+fn write_number(form: u64, emitter: &mut Emitter, a: u64)
+    requires { (form ≡ 6 → ⊥) × (form ≡ 7 → ⊥) }
+    ensures { Emits emitter.old emitter.new (item_bytes [] [] [] form a 0) }
 {
-    if !comparing {
-        if out.len() <= st.at {
-            if pool.len() < 256 {
-                return Step {
-                    at: emit::advance(st.at, 1),
-                    expected: st.expected,
-                };
+    match form {
+        1 => emitter.varint(a),
+        2 => emitter.varint(zigzag_word(a)),
+        3 => emitter.byte((a % 256) as u8),
+        4 => emitter.little_endian(a, 8),
+        5 => emitter.little_endian(a, 4),
+        _ => {}
+    }
+}
+
+// The line starts, each as the difference from the one before it.
+fn write_starts(emitter: &mut Emitter, starts: &[u32])
+    ensures { Emits emitter.old emitter.new (write_starts 0 starts.now) }
+{
+    let mut last = Position::from(0);
+    for s in starts {
+        let start = Position::from(*s);
+        write_code::write_delta(emitter, last, start);
+        last = start;
+    }
+}
+
+// A program in tables, with the pool of its strings. It can be written: no string stands twice in the pool, and spans are positions.
+#[derive(Clone, Copy)]
+struct Writing<'a> {
+    tables: Tables<'a>,
+    pool: Pool<'a>,
+    ghost once: { distinct (strings_of pool) ≡ true },
+    ghost positions: { Positions tables.spans.now },
+}
+
+impl Writing<'_> {
+    ghost use Rattle.write_rows.specs.Reached.{Reached};
+    ghost use Rattle.write_rows.specs.Written.{held_in};
+
+    // ---- a row's items
+
+    // A word of a row; 0 past its last. That there is such a row shows that there is a number after its own.
+    fn word(&self, i: usize, k: u64) -> u64
+        requires { i < row_count self.now.tables.rows.now }
+        ensures value { result ≡ row_word self.now.tables.rows.now i k }
+        ensures number { i < usize.MAX }
+    {
+        let word = k as usize;
+        if word < Program::ROW_WIDTH {
+            return self.tables.rows[Program::ROW_WIDTH * i + word];
+        }
+        0
+    }
+
+    // How many rows there are.
+    fn row_count(&self) -> usize
+        ensures value { result ≡ row_count self.now.tables.rows.now }
+        ensures small { 2 * result < usize.MAX }
+    {
+        self.tables.rows.len() / Program::ROW_WIDTH
+    }
+
+    // The spans from one on to another.
+    fn runs(&self, from: usize, to: usize) -> Runs<'_>
+        requires { (from ≤ to) × (to ≤ length self.now.tables.spans.now / 2) }
+        ensures { result.spans.now ≡ take (2 * to - 2 * from) (drop (2 * from) self.now.tables.spans.now) }
+    {
+        let start = 2 * from;
+        let end = 2 * to;
+        Runs {
+            spans: &self.tables.spans[start..end],
+        }
+    }
+
+    // A string's index. Where it is only measured its length counts: among at most 127 strings every index has one byte, and is not looked for.
+    fn write_index(&self, emitter: &mut Emitter, expected: usize, o: u64, n: u64) -> usize
+        ensures { Emits emitter.old emitter.new (uleb128 (index_of (bytes_at self.now.pool.store.now o n) (strings_of self.now.pool))) }
+    {
+        if self.pool.words.len() < 256 && emitter.only_measures() {
+            emitter.advance(1);
+            return expected;
+        }
+        let k = pool_index::lookup(self.pool.store, self.pool.words, expected, o, n);
+        emitter.varint(k as u64);
+        expect_next(expected, k)
+    }
+
+    // An item by its form, with the spans of its row. The answer is the pool index that the next string is expected to have.
+    fn write_item(
+        &self,
+        form: u64,
+        emitter: &mut Emitter,
+        expected: usize,
+        spans: Runs,
+        a: u64,
+        b: u64,
+    ) -> usize
+        ensures { Emits emitter.old emitter.new (item_bytes self.now.pool.store.now (strings_of self.now.pool) (spans_of spans.entry.spans.now) form a b) }
+    {
+        if form == 6 {
+            return self.write_index(emitter, expected, a, b);
+        }
+        if form == 7 {
+            write_chunk(emitter, pool_index::bytes_at(self.pool.store, a, b), spans);
+            return expected;
+        }
+        write_number(form, emitter, a);
+        expected
+    }
+
+    // What a row gives besides its tag: its items, and its count where it has one.
+    fn write_items(&self, emitter: &mut Emitter, expected: usize, spans: Runs, i: usize) -> usize
+        requires { i < row_count self.now.tables.rows.now }
+        ensures { Emits emitter.old emitter.new (items_bytes (held_in self.now) i (spans_of spans.entry.spans.now)) }
+    {
+        let tag = self.word(i, 0);
+        let first = row_layout::first_form(tag);
+        let second_expected = self.write_item(
+            first,
+            emitter,
+            expected,
+            spans,
+            self.word(i, 1),
+            self.word(i, 2),
+        );
+        let second = row_layout::second_form(tag);
+        let w = row_layout::second_word(tag);
+        let next = self.write_item(
+            second,
+            emitter,
+            second_expected,
+            spans,
+            self.word(i, w),
+            self.word(i, w + 1),
+        );
+        if 2 <= row_layout::under_form(tag) {
+            emitter.varint(self.word(i, row_layout::count_word(tag)));
+        }
+        next
+    }
+
+    // What a row gives before the rows under it.
+    fn write_head(&self, emitter: &mut Emitter, expected: usize, spans: Runs, i: usize) -> usize
+        requires { i < row_count self.now.tables.rows.now }
+        ensures { Emits emitter.old emitter.new (head_bytes (held_in self.now) i (spans_of spans.entry.spans.now)) }
+    {
+        let tag = self.word(i, 0);
+        write_tag(emitter, tag);
+        if row_layout::under_form(tag) == 4 {
+            return expected;
+        }
+        self.write_items(emitter, expected, spans, i)
+    }
+
+    // A row with nothing under it: its tag, and its items, none of which is code.
+    fn write_leaf(&self, emitter: &mut Emitter, place: Place) -> Place
+        requires { (place.row < row_count self.now.tables.rows.now) × (under_form (row_word self.now.tables.rows.now place.row 0) ≡ 0) }
+        ensures emitted { Emits emitter.old emitter.new (head_bytes (held_in self.now) place.row []) }
+        ensures row_value { (result.row ≡ place.row + 1) × (result.span ≡ place.span) }
+    {
+        let i = place.row;
+        let tag = self.word(i, 0);
+        write_tag(emitter, tag);
+        let none = self.runs(0, 0);
+        let first = row_layout::first_form(tag);
+        let expected = self.write_item(
+            first,
+            emitter,
+            place.expected,
+            none,
+            self.word(i, 1),
+            self.word(i, 2),
+        );
+        let second = row_layout::second_form(tag);
+        if second == 0 {
+            return Place {
+                row: i + 1,
+                span: place.span,
+                expected,
+            };
+        }
+        let w = row_layout::second_word(tag);
+        let next = self.write_item(
+            second,
+            emitter,
+            expected,
+            none,
+            self.word(i, w),
+            self.word(i, w + 1),
+        );
+        Place {
+            row: i + 1,
+            span: place.span,
+            expected: next,
+        }
+    }
+
+    // The span after those of a row.
+    fn span_after(&self, i: usize, j: usize) -> usize
+        requires i_bound { i < row_count self.now.tables.rows.now }
+        requires j_in_bounds { j ≤ length self.now.tables.spans.now / 2 }
+        ensures { result ≡ span_after (held_in self.now) i j }
+    {
+        let tag = self.word(i, 0);
+        if row_layout::first_form(tag) == 7 {
+            let code = pool_index::bytes_at(self.pool.store, self.word(i, 1), self.word(i, 2));
+            return j + code.len().min(self.tables.spans.len() / 2 - j);
+        }
+        j
+    }
+
+    // How many rows are under a row; of a closure, after the first.
+    fn rows_under(&self, i: usize) -> u64
+        requires { i < row_count self.now.tables.rows.now }
+        ensures { result ≡ rows_under (held_in self.now) i }
+    {
+        let tag = self.word(i, 0);
+        let under = row_layout::under_form(tag);
+        if under == 0 {
+            return 0;
+        }
+        if under == 1 {
+            return 1;
+        }
+        let n = pool_index::cut(self.word(i, row_layout::count_word(tag)), self.row_count()) as u64;
+        if under == 3 {
+            return 2 * n;
+        }
+        n
+    }
+
+    // ---- the walk: a row, and so many rows, each with those under them
+
+    #[cycle(rows)]
+    fn write_row(&self, depth: usize, emitter: &mut Emitter, place: Place) -> Place
+        requires { (place.row < row_count self.now.tables.rows.now) × (place.span ≤ length self.now.tables.spans.now / 2) }
+        ensures { Reached emitter.old emitter.new (length self.now.tables.spans.now / 2) place result
+            (walk_row (held_in self.now) (walk (held_in self.now) depth) place.row place.span) }
+    {
+        let i = place.row;
+        let tag = self.word(i, 0);
+        let after = self.span_after(i, place.span);
+        let head = self.write_head(emitter, place.expected, self.runs(place.span, after), i);
+        let n = self.rows_under(i);
+        let next = Place {
+            row: i + 1,
+            span: after,
+            expected: head,
+        };
+        if row_layout::under_form(tag) == 4 {
+            let mid = self.write_rows(depth, emitter, 1, next);
+            let expected = self.write_items(emitter, mid.expected, self.runs(0, 0), i);
+            return self.write_rows(depth, emitter, n, Place { expected, ..mid });
+        }
+        if n == 0 {
+            return next;
+        }
+        self.write_rows(depth, emitter, n, next)
+    }
+
+    #[cycle(rows)]
+    fn write_rows(&self, depth: usize, emitter: &mut Emitter, count: u64, place: Place) -> Place
+        requires { place.span ≤ length self.now.tables.spans.now / 2 }
+        ensures { Reached emitter.old emitter.new (length self.now.tables.spans.now / 2) place result
+            (walk (held_in self.now) depth count place.row place.span) }
+    {
+        if depth == 0 {
+            return place;
+        }
+        let under = depth - 1;
+        let mut here = place;
+        for _k in 0..count {
+            if self.row_count() <= here.row {
+                return here;
+            }
+            if row_layout::under_form(self.word(here.row, 0)) == 0 {
+                here = self.write_leaf(emitter, here);
+            } else {
+                here = self.write_row(under, emitter, here);
             }
         }
+        here
     }
-    let k = pool_index::lookup(store, pool, st.expected, o, n);
-    let at = emit::emit_varint(comparing, payload, out, st.at, k as u64);
-    Step {
-        at,
-        expected: expect_next(st.expected, k),
-    }
-}
 
-// An item that is a number, by its form.
-fn write_number(
-    form: u64,
-    comparing: bool,
-    payload: &[u8],
-    out: &mut [u8],
-    at: usize,
-    a: u64,
-) -> usize
-    requires ready { Ready comparing out.old at }
-    requires form_bound { form < 6 }
-    ensures { Emitted comparing payload.now out.old out.new at result (item_bytes [] [] [] form a 0) }
-{
-    if form == 1 {
-        return emit::emit_varint(comparing, payload, out, at, a);
-    }
-    if form == 2 {
-        return emit::emit_varint(comparing, payload, out, at, zigzag_word(a));
-    }
-    if form == 3 {
-        return emit::emit_byte(comparing, payload, out, at, (a % 256) as u8);
-    }
-    if form == 4 {
-        return emit::emit_le(comparing, payload, out, at, a, 8);
-    }
-    if form == 5 {
-        return emit::emit_le(comparing, payload, out, at, a, 4);
-    }
-    at
-}
-
-// An item that is no code, by its form.
-fn write_plain(
-    form: u64,
-    comparing: bool,
-    payload: &[u8],
-    out: &mut [u8],
-    st: Step,
-    store: &[u8],
-    pool: &[u64],
-    a: u64,
-    b: u64,
-) -> Step
-    requires ready { Ready comparing out.old st.at }
-    requires pool_value { distinct (pool_strings store.now pool.now) ≡ true }
-    requires form_bound { form < 7 }
-    ensures { Emitted comparing payload.now out.old out.new st.at result.at (item_bytes store.now (pool_strings store.now pool.now) [] form a b) }
-{
-    if form == 6 {
-        return write_index(comparing, payload, out, st, store, pool, a, b);
-    }
-    let next = write_number(form, comparing, payload, out, st.at, a);
-    Step {
-        at: next,
-        expected: st.expected,
-    }
-}
-
-// An item by its form.
-fn write_item(
-    form: u64,
-    comparing: bool,
-    payload: &[u8],
-    out: &mut [u8],
-    st: Step,
-    store: &[u8],
-    pool: &[u64],
-    spans: &[u64],
-    a: u64,
-    b: u64,
-) -> Step
-    requires ready { Ready comparing out.old st.at }
-    requires writable { Writable store.now pool.now spans.now }
-    ensures { Emitted comparing payload.now out.old out.new st.at result.at
-        (item_bytes store.now (pool_strings store.now pool.now) (spans_of spans.now) form a b) }
-{
-    if form < 6 {
-        let next = write_number(form, comparing, payload, out, st.at, a);
-        return Step {
-            at: next,
-            expected: st.expected,
-        };
-    }
-    if form == 6 {
-        return write_index(comparing, payload, out, st, store, pool, a, b);
-    }
-    if form == 7 {
-        let next = write_chunk(
-            comparing,
-            payload,
-            out,
-            st.at,
-            pool_index::bytes_at(store, a, b),
-            spans,
-        );
-        return Step {
-            at: next,
-            expected: st.expected,
-        };
-    }
-    st
-}
-
-// What a row gives besides its tag: its items, and its count where it has one.
-fn write_items(
-    comparing: bool,
-    payload: &[u8],
-    out: &mut [u8],
-    st: Step,
-    store: &[u8],
-    pool: &[u64],
-    rows: &[u64],
-    spans: &[u64],
-    i: usize,
-) -> Step
-    requires ready { Ready comparing out.old st.at }
-    requires writable { Writable store.now pool.now spans.now }
-    requires i_bound { i < row_count rows.now }
-    ensures { Emitted comparing payload.now out.old out.new st.at result.at
-        (items_bytes (held store.now pool.now rows.now []) i (spans_of spans.now)) }
-{
-    let tag = word_at(rows, i, 0);
-    let a = write_item(
-        row_layout::first_form(tag),
-        comparing,
-        payload,
-        out,
-        st,
-        store,
-        pool,
-        spans,
-        word_at(rows, i, 1),
-        word_at(rows, i, 2),
-    );
-    let w = row_layout::second_word(tag);
-    let b = write_item(
-        row_layout::second_form(tag),
-        comparing,
-        payload,
-        out,
-        a,
-        store,
-        pool,
-        spans,
-        word_at(rows, i, w),
-        word_at(rows, i, w + 1),
-    );
-    if 2 <= row_layout::under_form(tag) {
-        let next = emit::emit_varint(
-            comparing,
-            payload,
-            out,
-            b.at,
-            word_at(rows, i, row_layout::count_word(tag)),
-        );
-        return Step {
-            at: next,
-            expected: b.expected,
-        };
-    }
-    b
-}
-
-// What a row gives before the rows under it.
-fn write_head(
-    comparing: bool,
-    payload: &[u8],
-    out: &mut [u8],
-    st: Step,
-    store: &[u8],
-    pool: &[u64],
-    rows: &[u64],
-    spans: &[u64],
-    i: usize,
-) -> Step
-    requires ready { Ready comparing out.old st.at }
-    requires writable { Writable store.now pool.now spans.now }
-    requires i_bound { i < row_count rows.now }
-    ensures { Emitted comparing payload.now out.old out.new st.at result.at (head_bytes (held store.now pool.now rows.now []) i (spans_of spans.now)) }
-{
-    let tag = word_at(rows, i, 0);
-    let next = Step {
-        at: write_tag(comparing, payload, out, st.at, tag),
-        expected: st.expected,
-    };
-    if row_layout::under_form(tag) == 4 {
-        return next;
-    }
-    write_items(comparing, payload, out, next, store, pool, rows, spans, i)
-}
-
-// A row with nothing under it: its tag, and its items, none of which is code.
-fn write_leaf(
-    comparing: bool,
-    payload: &[u8],
-    out: &mut [u8],
-    store: &[u8],
-    pool: &[u64],
-    rows: &[u64],
-    st: Place,
-) -> Place
-    requires ready { Ready comparing out.old st.at }
-    requires pool_value { distinct (pool_strings store.now pool.now) ≡ true }
-    requires row_bound { (st.row < row_count rows.now) × (under_form (row_word rows.now st.row 0) ≡ 0) }
-    ensures emitted { Emitted comparing payload.now out.old out.new st.at result.at (head_bytes (held store.now pool.now rows.now []) st.row []) }
-    ensures row_value { (result.row ≡ st.row + 1) × (result.span ≡ st.span) }
-{
-    let i = st.row;
-    let tag = word_at(rows, i, 0);
-    let next = Step {
-        at: write_tag(comparing, payload, out, st.at, tag),
-        expected: st.expected,
-    };
-    let a = write_plain(
-        row_layout::first_form(tag),
-        comparing,
-        payload,
-        out,
-        next,
-        store,
-        pool,
-        word_at(rows, i, 1),
-        word_at(rows, i, 2),
-    );
-    let form = row_layout::second_form(tag);
-    if form == 0 {
-        return Place {
-            row: i + 1,
-            span: st.span,
-            at: a.at,
-            expected: a.expected,
-        };
-    }
-    let w = row_layout::second_word(tag);
-    let b = write_plain(
-        form,
-        comparing,
-        payload,
-        out,
-        a,
-        store,
-        pool,
-        word_at(rows, i, w),
-        word_at(rows, i, w + 1),
-    );
-    Place {
-        row: i + 1,
-        span: st.span,
-        at: b.at,
-        expected: b.expected,
-    }
-}
-
-// The span after those of a row.
-fn span_after(store: &[u8], rows: &[u64], spans: &[u64], i: usize, j: usize) -> usize
-    requires i_bound { i < row_count rows.now }
-    requires j_in_bounds { j ≤ length spans.now / 2 }
-    ensures { result ≡ span_after (held store.now [] rows.now spans.now) i j }
-{
-    let tag = word_at(rows, i, 0);
-    if row_layout::first_form(tag) == 7 {
-        let code = pool_index::bytes_at(store, word_at(rows, i, 1), word_at(rows, i, 2));
-        return j + emit::least(code.len(), spans.len() / 2 - j);
-    }
-    j
-}
-
-// How many rows are under a row; of a closure, after the first.
-fn rows_under(rows: &[u64], i: usize) -> u64
-    requires { i < row_count rows.now }
-    ensures { result ≡ rows_under (held [] [] rows.now []) i }
-{
-    let tag = word_at(rows, i, 0);
-    let under = row_layout::under_form(tag);
-    if under == 0 {
-        return 0;
-    }
-    if under == 1 {
-        return 1;
-    }
-    let n = pool_index::cut(
-        word_at(rows, i, row_layout::count_word(tag)),
-        rows.len() / Program::ROW_WIDTH,
-    ) as u64;
-    if under == 3 {
-        return 2 * n;
-    }
-    n
-}
-
-// ---- the walk: a row, and so many rows, each with those under them
-
-#[cycle(rows)]
-fn write_row(
-    depth: usize,
-    comparing: bool,
-    payload: &[u8],
-    out: &mut [u8],
-    store: &[u8],
-    pool: &[u64],
-    rows: &[u64],
-    spans: &[u64],
-    st: Place,
-) -> Place
-    requires ready { Ready comparing out.old st.at }
-    requires writable { Writable store.now pool.now spans.now }
-    requires row_bound { (st.row < row_count rows.now) × (st.span ≤ length spans.now / 2) }
-    ensures { Reached comparing payload.now out.old out.new (length spans.now / 2) st result
-        (walk_row (held store.now pool.now rows.now spans.now) (walk (held store.now pool.now rows.now spans.now) depth) st.row st.span) }
-{
-    let i = st.row;
-    let j = st.span;
-    let after = span_after(store, rows, spans, i, j);
-    let a = 2 * j;
-    let e = 2 * after;
-    let head = write_head(
-        comparing,
-        payload,
-        out,
-        Step {
-            at: st.at,
-            expected: st.expected,
-        },
-        store,
-        pool,
-        rows,
-        &spans[a..e],
-        i,
-    );
-    let n = rows_under(rows, i);
-    let next = Place {
-        row: i + 1,
-        span: after,
-        at: head.at,
-        expected: head.expected,
-    };
-    if row_layout::under_form(word_at(rows, i, 0)) == 4 {
-        let mid = write_rows(
-            depth, comparing, payload, out, store, pool, rows, spans, 1, next,
-        );
-        let z: usize = 0;
-        let items = write_items(
-            comparing,
-            payload,
-            out,
-            Step {
-                at: mid.at,
-                expected: mid.expected,
-            },
-            store,
-            pool,
-            rows,
-            &spans[z..z],
-            i,
-        );
-        return write_rows(
-            depth,
-            comparing,
-            payload,
-            out,
-            store,
-            pool,
-            rows,
-            spans,
-            n,
-            Place {
-                row: mid.row,
-                span: mid.span,
-                at: items.at,
-                expected: items.expected,
-            },
-        );
-    }
-    if n == 0 {
-        return next;
-    }
-    write_rows(
-        depth, comparing, payload, out, store, pool, rows, spans, n, next,
-    )
-}
-
-#[cycle(rows)]
-fn write_rows(
-    depth: usize,
-    comparing: bool,
-    payload: &[u8],
-    out: &mut [u8],
-    store: &[u8],
-    pool: &[u64],
-    rows: &[u64],
-    spans: &[u64],
-    count: u64,
-    st: Place,
-) -> Place
-    requires ready { Ready comparing out.old st.at }
-    requires writable { Writable store.now pool.now spans.now }
-    requires span_in_bounds { st.span ≤ length spans.now / 2 }
-    ensures { Reached comparing payload.now out.old out.new (length spans.now / 2) st result
-        (walk (held store.now pool.now rows.now spans.now) depth count st.row st.span) }
-{
-    if depth == 0 {
-        return st;
-    }
-    let under = depth - 1;
-    let mut here = st;
-    let mut k: u64 = 0;
-    while k < count {
-        if rows.len() / Program::ROW_WIDTH <= here.row {
-            return here;
+    fn write_line_index(&self, emitter: &mut Emitter)
+        ensures { Emits emitter.old emitter.new
+            (line_bytes (strings_of self.now.pool) self.now.tables.flag (bytes_at self.now.pool.store.now self.now.tables.name_o self.now.tables.name_n) self.now.tables.starts.now) }
+    {
+        let tables = self.tables;
+        if tables.flag == 0 {
+            return emitter.byte(0);
         }
-        if row_layout::under_form(word_at(rows, here.row, 0)) == 0 {
-            here = write_leaf(comparing, payload, out, store, pool, rows, here);
-        } else {
-            here = write_row(
-                under, comparing, payload, out, store, pool, rows, spans, here,
-            );
-        }
-        k += 1;
+        emitter.byte(1);
+        let k = pool_index::lookup(
+            self.pool.store,
+            self.pool.words,
+            0,
+            tables.name_o as u64,
+            tables.name_n as u64,
+        );
+        emitter.varint(k as u64);
+        emitter.varint(tables.starts.len() as u64);
+        write_starts(emitter, tables.starts);
     }
-    here
 }
 
-// ---- pool, values, line index: each into the part of the output that begins where the last part ended
+// ---- the whole payload: pool, values, line index
 
-fn lend_pool(
-    comparing: bool,
-    payload: &[u8],
-    out: &mut [u8],
-    at: usize,
-    store: &[u8],
-    pool: &[u64],
-) -> usize
-    requires { Ready comparing out.old at }
-    ensures { Emitted comparing payload.now out.old out.new at result (write_pool (pool_strings store.now pool.now)) }
-{
-    let o = emit::least(at, out.len());
-    let p = emit::least(at, payload.len());
-    let n = pool_index::write_pool(comparing, &payload[p..], &mut out[o..], store, pool);
-    emit::advance(at, n)
+#[derive(Clone, Copy)]
+struct Values<'a> {
+    writing: Writing<'a>,
 }
 
-fn lend_values(
-    comparing: bool,
-    payload: &[u8],
-    out: &mut [u8],
-    at: usize,
-    store: &[u8],
-    pool: &[u64],
-    rows: &[u64],
-    spans: &[u64],
-) -> usize
-    requires ready { Ready comparing out.old at }
-    requires writable { Writable store.now pool.now spans.now }
-    ensures { Emitted comparing payload.now out.old out.new at result (walk (held store.now pool.now rows.now spans.now) walk_depth 1 0 0).bytes }
-{
-    let o = emit::least(at, out.len());
-    let p = emit::least(at, payload.len());
-    let end = write_rows(
-        WALK_DEPTH,
-        comparing,
-        &payload[p..],
-        &mut out[o..],
-        store,
-        pool,
-        rows,
-        spans,
-        1,
-        Place {
+impl Part for Values<'_> {
+    ghost use Rattle.write_rows.specs.Written.{values_bytes};
+
+    ghost bytes = { values_bytes };
+
+    fn emit(&self, emitter: &mut Emitter) {
+        let start = Place {
             row: 0,
             span: 0,
-            at: 0,
             expected: 0,
-        },
-    );
-    emit::advance(at, end.at)
-}
-
-fn wide(x: u32) -> u64
-    ensures { (result ≡ x) × (result < 4294967296) }
-{
-    x as u64
-}
-
-fn write_starts(comparing: bool, payload: &[u8], out: &mut [u8], at: usize, starts: &[u32]) -> usize
-    requires { Ready comparing out.old at }
-    ensures { Emitted comparing payload.now out.old out.new at result (write_starts 0 starts.now) }
-{
-    let mut i = at;
-    let mut last: u64 = 0;
-    let mut k: usize = 0;
-    while k < starts.len() {
-        let s = wide(starts[k]);
-        i = write_code::write_delta(comparing, payload, out, i, last, s);
-        last = s;
-        k += 1;
+        };
+        self.writing.write_rows(WALK_DEPTH, emitter, 1, start);
     }
-    i
 }
 
-fn write_line_index(
-    comparing: bool,
-    payload: &[u8],
-    out: &mut [u8],
-    at: usize,
-    store: &[u8],
-    pool: &[u64],
-    flag: u64,
-    o: u64,
-    n: u64,
-    starts: &[u32],
-) -> usize
-    requires ready { Ready comparing out.old at }
-    requires pool_value { distinct (pool_strings store.now pool.now) ≡ true }
-    ensures { Emitted comparing payload.now out.old out.new at result
-        (line_bytes (pool_strings store.now pool.now) flag (bytes_at store.now o n) starts.now) }
-{
-    if flag == 0 {
-        return emit::emit_byte(comparing, payload, out, at, 0);
+impl Part for Writing<'_> {
+    ghost use Rattle.write_rows.specs.Written.{writing_bytes};
+
+    ghost bytes = { writing_bytes };
+
+    // Pool and values go into the part of the output that begins where the last part ended.
+    fn emit(&self, emitter: &mut Emitter) {
+        emitter.part(&self.pool);
+        emitter.part(&Values { writing: *self });
+        self.write_line_index(emitter);
     }
-    let a = emit::emit_byte(comparing, payload, out, at, 1);
-    let k = pool_index::lookup(store, pool, 0, o, n);
-    let b = emit::emit_varint(comparing, payload, out, a, k as u64);
-    let c = emit::emit_varint(comparing, payload, out, b, starts.len() as u64);
-    write_starts(comparing, payload, out, c, starts)
 }
 
-// ---- the whole payload
-
-fn write_all(
-    comparing: bool,
-    payload: &[u8],
-    out: &mut [u8],
-    store: &[u8],
-    pool: &[u64],
-    rows: &[u64],
-    spans: &[u64],
-    flag: u64,
-    o: u64,
-    n: u64,
-    starts: &[u32],
-) -> usize
-    requires ready { Ready comparing out.old 0 }
-    requires writable { Writable store.now pool.now spans.now }
-    ensures { Emitted comparing payload.now out.old out.new 0 result
-        (payload_bytes (held store.now pool.now rows.now spans.now) flag (bytes_at store.now o n) starts.now) }
+// The payload of tables into an output, or compared with one that is expected: the place after it.
+fn write_all(out: &mut [u8], expected: Option<&[u8]>, tables: &Tables, pool: &[u64]) -> usize
+    requires room { length out.old ≤ output_limit (is_some expected) }
+    requires writable { CanWrite tables.now pool.now }
+    ensures { Emitted (is_some expected.entry) (bytes_of expected.entry) out.old out.new 0 result (tables_bytes tables.now pool.now) }
 {
-    let a = lend_pool(comparing, payload, out, 0, store, pool);
-    let b = lend_values(comparing, payload, out, a, store, pool, rows, spans);
-    write_line_index(comparing, payload, out, b, store, pool, flag, o, n, starts)
+    let strings = Pool {
+        store: tables.store,
+        words: pool,
+    };
+    let writing = Writing {
+        tables: *tables,
+        pool: strings,
+    };
+    emit_part(out, expected, &writing)
 }
 
 // How long the payload is: one more than the size limit where it is above that.
-pub fn measure(
-    store: &[u8],
-    pool: &[u64],
-    rows: &[u64],
-    spans: &[u64],
-    flag: u64,
-    o: u64,
-    n: u64,
-    starts: &[u32],
-) -> usize
-    requires { Writable store.now pool.now spans.now }
-    ensures { result ≡ further 0 (length (payload_bytes (held store.now pool.now rows.now spans.now) flag (bytes_at store.now o n) starts.now)) }
+pub fn measure(tables: &Tables, pool: &[u64]) -> usize
+    requires { CanWrite tables.now pool.now }
+    ensures { result ≡ further 0 (length (tables_bytes tables.now pool.now)) }
 {
-    let mut none = [0u8; 1];
-    let z: usize = 0;
-    write_all(
-        false,
-        &store[z..z],
-        &mut none[z..z],
-        store,
-        pool,
-        rows,
-        spans,
-        flag,
-        o,
-        n,
-        starts,
-    )
+    let mut none = [0u8; 0];
+    write_all(&mut none, None, tables, pool)
 }
 
 // Whether the payload of the tables is this one.
-pub fn agrees(
-    payload: &[u8],
-    store: &[u8],
-    pool: &[u64],
-    rows: &[u64],
-    spans: &[u64],
-    flag: u64,
-    o: u64,
-    n: u64,
-    starts: &[u32],
-) -> bool
+pub fn agrees(payload: &[u8], tables: &Tables, pool: &[u64]) -> bool
     requires payload_len_bound { length payload.now ≤ size_limit }
-    requires writable { Writable store.now pool.now spans.now }
-    ensures { result ≡ same (payload_bytes (held store.now pool.now rows.now spans.now) flag (bytes_at store.now o n) starts.now) payload.now }
+    requires writable { CanWrite tables.now pool.now }
+    ensures { result ≡ same (tables_bytes tables.now pool.now) payload.now }
 {
-    let mut none = [0u8; 1];
-    let z: usize = 0;
-    write_all(
-        true,
-        payload,
-        &mut none[z..z],
-        store,
-        pool,
-        rows,
-        spans,
-        flag,
-        o,
-        n,
-        starts,
-    ) == payload.len()
+    let mut none = [0u8; 0];
+    write_all(&mut none, Some(payload), tables, pool) == payload.len()
 }
 
 // The payload into an output that has room for it; what follows stays.
-pub fn write_out(
-    out: &mut [u8],
-    store: &[u8],
-    pool: &[u64],
-    rows: &[u64],
-    spans: &[u64],
-    flag: u64,
-    o: u64,
-    n: u64,
-    starts: &[u32],
-) -> usize
-    requires starts_in_bounds { (length (payload_bytes (held store.now pool.now rows.now spans.now) flag (bytes_at store.now o n) starts.now) ≤ length out.old) × (length out.old ≤ size_limit) }
-    requires writable { Writable store.now pool.now spans.now }
-    ensures { WrittenOut (payload_bytes (held store.now pool.now rows.now spans.now) flag (bytes_at store.now o n) starts.now)
-        out.old out.new result }
+pub fn write_out(out: &mut [u8], tables: &Tables, pool: &[u64]) -> usize
+    requires room { (length (tables_bytes tables.now pool.now) ≤ length out.old) × (length out.old ≤ size_limit) }
+    requires writable { CanWrite tables.now pool.now }
+    ensures { WrittenOut (tables_bytes tables.now pool.now) out.old out.new result }
 {
-    let z: usize = 0;
-    write_all(
-        false,
-        &store[z..z],
-        out,
-        store,
-        pool,
-        rows,
-        spans,
-        flag,
-        o,
-        n,
-        starts,
-    )
+    write_all(out, None, tables, pool)
 }

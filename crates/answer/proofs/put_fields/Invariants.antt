@@ -1,11 +1,8 @@
 use mathlib.Core.Path.{◌≡◌}
-use Prim.Native.Nat.{◌-◌, ◌≤◌}
-use lib.ListN.{length, take}
+use lib.ListN.{drop}
 use Rattle.slices.specs.Put.{put}
 use Rattle.answer.proofs.put_fields.Given as goal
 
+-- the fields that are left, put where the next goes, make the whole
 abbrev pub invariant-loop-i : goal.invariant-loop-i
-invariant-loop-i l = (l.i ≤ length l.fields) × (length l.answer ≡ length l.initial.answer) × (l.answer ≡ put l.initial.answer 0 (take l.i l.fields))
-
-abbrev pub decreases-loop-i : goal.decreases-loop-i
-decreases-loop-i l = length l.fields - l.i
+invariant-loop-i l = put l.answer l.i (drop l.i l.fields) ≡ put l.initial.answer 0 l.fields

@@ -3,7 +3,4 @@ use Rattle.emit.specs.Laws.Emit.{put_store}
 use Rattle.emit.proofs.store_body.Goals as goal
 
 pub returns : goal.returns
-returns c =
-    let least = c.least-k in
-    put_store c.args.out.now c.args.at c.args.s.now least.result c.requires least.ensures
-    c.copy_part.ensures
+returns c = put_store c.args.out.now c.args.at c.args.s.now c.requires c.min-k.ensures c.copy_part.ensures

@@ -1,15 +1,15 @@
 -- Laws of `emit` by what the code does: a byte, and many bytes, stored, measured or compared.
-use Rattle.std.specs.Prelude.{Bool, not, ◌&&◌, ◌≡◌, get_or, take, drop, set}
+use Rattle.std.specs.Prelude.{Bool, ◌&&◌, ◌≡◌, get_or, take, drop, set}
 use Rattle.std.proofs.Math.Bool.{true, false, cond}
 use mathlib.Core.List.{List, [], ◌∷◌, ◌++◌}
 use Rattle.std.proofs.Math.Path.{refl, ap, ap₂}
-use Rattle.std.proofs.Common.{sym, ◌∙◌, subst, drop_of_length-le, length-drop, drop-cons}
+use Rattle.std.proofs.Common.{sym, ◌∙◌, drop_of_length-le, length-drop, drop-cons}
 use Prim.Native.Nat.{ℕ, zero, suc, ◌+◌, ◌-◌, ◌/◌, ◌%◌, ◌≤◌, ◌<◌}
 use native.Mathlib.Omega.{arith}
 use Rattle.std.proofs.Math.Dec.{leb, eqb}
 use Rattle.std.proofs.Math.ListN.{length}
 use Rattle.std.proofs.Math.Seq.{take-length}
-use borrow.Author.Tests.{not-true, le-leb, lt-leb, leb-true, eq-eqb, ne_eqb}
+use borrow.Author.Tests.{le-leb, lt-leb, leb-true, eq-eqb, ne_eqb}
 use Rattle.slices.specs.Laws.Put.{put_last}
 use Rattle.slices.specs.LittleEndian.{to_le_bytes}
 use Rattle.slices.specs.Put.{put}
@@ -84,9 +84,6 @@ module _ {p o : List ℕ} {at x : ℕ} {comparing : Bool} where
 
 pub past_all : {p o b : List ℕ} {at : ℕ} {comparing : Bool} → comparing ≡ false → length o ≤ at → Emitted comparing p o o at (further at (length b)) b
 past_all {p} {o} {b} {at} {comparing} e h = emitted (sym (rw e (emit_past p o at b h)))
-
-pub emitted_past : {p o b : List ℕ} {at r : ℕ} {comparing : Bool} → not comparing ≡ true → length o ≤ at → r ≡ further at (length b) → Emitted comparing p o o at r b
-emitted_past {p} {o} {b} {at} {r} {comparing} e h q = subst (λ (n : ℕ). Emitted comparing p o o at n b) (sym q) (past_all (not-true comparing e) h)
 
 ---- many bytes
 

@@ -1,4 +1,4 @@
--- Laws of `emit`: one run of bytes after another, and what is left of a whole.
+-- Laws of `emit`: one run of bytes after another.
 use Rattle.std.specs.Prelude.{Bool, ◌&&◌, List, [], ◌∷◌, ◌++◌, ◌≡◌, ℕ, suc, ◌+◌, ◌-◌, ◌≤◌, ◌<◌, min, leb, eqb, take, drop}
 use Rattle.std.proofs.Math.Bool.{true, false, cond, and-eq-true_iff}
 use Rattle.std.proofs.Math.Path.{refl, sym, ap, ap₂}
@@ -8,7 +8,7 @@ use Rattle.std.proofs.Math.Seq.{set_out}
 use Rattle.std.proofs.lemmas.Bool.{lt-leb}
 use Rattle.slices.specs.Laws.Put.{put_put, put_none, length_put}
 use Rattle.slices.specs.Put.{put}
-use Rattle.emit.specs.Emit.{Output, output, limit, stopped, begins, goes_on, place_after, emit, output_limit, Ready, Emitted}
+use Rattle.emit.specs.Emit.{Output, output, limit, stopped, further, begins, goes_on, place_after, emit, output_limit, Emitted}
 
 ---- stores
 
@@ -125,10 +125,6 @@ place_reach comparing p at b = go (leb (at + length b) limit) refl (cond compari
     go true q false = omega arith
     go false q u = omega arith
 
--- these bytes from here make the whole
-pub record Remaining (comparing : Bool) (p : List ℕ) (w : Output) (o : List ℕ) (at : ℕ) (b : List ℕ) : Type 0 where
-  pub is : w ≡ emit comparing p (output o at) b
-
 module _ {comparing : Bool} {p : List ℕ} where
   pub emitted : {o o' : List ℕ} {at at' : ℕ} {b : List ℕ} → output o' at' ≡ emit comparing p (output o at) b → Emitted comparing p o o' at at' b
   unfolding emit
@@ -147,55 +143,18 @@ module _ {comparing : Bool} {p : List ℕ} where
   pub emitted_then : {o o' o'' : List ℕ} {at at' at'' : ℕ} {a b : List ℕ} → length o ≤ output_limit comparing → Emitted comparing p o o' at at' a → Emitted comparing p o' o'' at' at'' b → Emitted comparing p o o'' at at'' (a ++ b)
   emitted_then {o} {o'} {o''} {at} {at'} {at''} {a} {b} h s r = record { is = r.is ∙ ap (λ (k : Output). emit comparing p k b) s.is ∙ sym (emit_append comparing p at a b o h); reach = r.reach }
 
-  -- of a whole that begins with a, what is left after a
-  pub remaining_after : {w : Output} {o o' : List ℕ} {at at' : ℕ} {a b : List ℕ} → length o ≤ output_limit comparing → Remaining comparing p w o at (a ++ b) → Emitted comparing p o o' at at' a → Remaining comparing p w o' at' b
-  remaining_after {w} {o} {o'} {at} {at'} {a} {b} h e s = record { is = e.is ∙ emit_append comparing p at a b o h ∙ ap (λ (k : Output). emit comparing p k b) (sym s.is) }
-
-  pub remaining_as : {w : Output} {o : List ℕ} {at : ℕ} {a b : List ℕ} → a ≡ b → Remaining comparing p w o at a → Remaining comparing p w o at b
-  remaining_as {w} {o} {at} e s = subst (λ (l : List ℕ). Remaining comparing p w o at l) e s
-
-  pub remaining_start : (o : List ℕ) (at : ℕ) (b : List ℕ) → Remaining comparing p (emit comparing p (output o at) b) o at b
-  remaining_start o at b = record { is = refl }
-
-  -- the last of it
-  pub remaining_end : {o₀ o o' : List ℕ} {at₀ at at' : ℕ} {w b : List ℕ} → Remaining comparing p (emit comparing p (output o₀ at₀) w) o at b → Emitted comparing p o o' at at' b → Emitted comparing p o₀ o' at₀ at' w
-  remaining_end e s = record { is = s.is ∙ sym e.is; reach = s.reach }
-
--- a loop that writes: what is left to write from here makes the whole
-pub record Emitting (comparing : Bool) (p : List ℕ) (w : Output) (o₀ o : List ℕ) (at : ℕ) (b : List ℕ) : Type 0 where
-  pub left : Remaining comparing p w o at b
-  pub place : at ≤ stopped
-  pub room : length o ≤ output_limit comparing
-  pub long : length o ≡ length o₀
-
-module _ {comparing : Bool} {p : List ℕ} where
-  pub emitted_ready : {o o' : List ℕ} {at at' : ℕ} {b : List ℕ} → length o ≤ output_limit comparing → Emitted comparing p o o' at at' b → Ready comparing o' at'
-  emitted_ready h s = record { room = omega (arith, emitted_long s, h); place = s.reach }
-
-  pub emitting_start : {o : List ℕ} {at : ℕ} {b : List ℕ} → Ready comparing o at → Emitting comparing p (emit comparing p (output o at) b) o o at b
-  emitting_start {o} {at} {b} r = record { left = remaining_start o at b; place = r.place; room = r.room; long = refl }
-
-  pub emitting_ready : {w : Output} {o₀ o : List ℕ} {at : ℕ} {b : List ℕ} → Emitting comparing p w o₀ o at b → Ready comparing o at
-  emitting_ready g = record { room = g.room; place = g.place }
-
-  -- some more of it
-  pub emitting_next : {w : Output} {o₀ o o' : List ℕ} {at at' : ℕ} {a b c : List ℕ} → Emitting comparing p w o₀ o at c → c ≡ a ++ b → Emitted comparing p o o' at at' a → Emitting comparing p w o₀ o' at' b
-  emitting_next g e s = record { left = remaining_after g.room (remaining_as e g.left) s; place = s.reach; room = omega (arith, emitted_long s, g.room); long = emitted_long s ∙ g.long }
-
-  -- all of it
-  pub emitting_last : {o₀ o o' : List ℕ} {at₀ at at' : ℕ} {w b c : List ℕ} → Emitting comparing p (emit comparing p (output o₀ at₀) w) o₀ o at c → c ≡ b → Emitted comparing p o o' at at' b → Emitted comparing p o₀ o' at₀ at' w
-  emitting_last g e s = remaining_end (remaining_as e g.left) s
-
-  pub emitting_end : {o₀ o : List ℕ} {at₀ at : ℕ} {w c : List ℕ} → Emitting comparing p (emit comparing p (output o₀ at₀) w) o₀ o at c → c ≡ [] → Emitted comparing p o₀ o at₀ at w
-  emitting_end g e = emitting_last g e (emitted_none g.place)
-
 -- as many bytes as there is room for
-pub put_store : (o : List ℕ) (at : ℕ) (b : List ℕ) (k : ℕ) {o' : List ℕ} → at ≤ length o → k ≡ min (length b) (length o - at) → o' ≡ put o at (take (k - 0) b) → o' ≡ put o at b
-put_store o at b k h e q = q ∙ ap (λ (n : ℕ). put o at (take n b)) z ∙ go (leb (length b) (length o - at)) refl
+pub put_store : (o : List ℕ) (at : ℕ) (b : List ℕ) {k : ℕ} {o' : List ℕ} → at ≤ length o → k ≡ min (length b) (length o - at) → o' ≡ put o at (take k b) → o' ≡ put o at b
+put_store o at b {k} h e q = q ∙ go (leb (length b) (length o - at)) refl
   where
-    z : k - 0 ≡ k
-    z = omega arith
-
     go : (t : Bool) → leb (length b) (length o - at) ≡ t → put o at (take k b) ≡ put o at b
     go true w = let g : length b ≤ length o - at = leb-true _ _ w in ap (put o at) (take_all k b (omega arith))
     go false w = let g : length o - at < length b = leb-false _ _ w in put_cut o at k b (omega arith) (omega arith)
+
+pub further_reach : (at n : ℕ) → further at n ≤ stopped
+unfolding further
+further_reach at n = go (leb (at + n) limit) refl
+  where
+    go : (t : Bool) → leb (at + n) limit ≡ t → cond t (at + n) stopped ≤ stopped
+    go true q = omega (arith, leb-true (at + n) limit q)
+    go false q = omega arith

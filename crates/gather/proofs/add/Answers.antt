@@ -3,18 +3,8 @@ use Rattle.pool_index.specs.Strings.{link_base}
 use Rattle.gather.specs.Entries.{added}
 use Prim.Native.Nat.{ℕ, ◌+◌, ◌*◌}
 use mathlib.Core.Path.{ap}
-use native.Mathlib.Omega.{arith}
-use lib.ListN.{set, length-set}
+use lib.ListN.{set}
 use Rattle.gather.proofs.add.Goals as goal
-
-pub overflow_add-table : goal.overflow_add-table
-overflow_add-table c = record { fits = omega (arith, c.low_in.ensures.1, c.requires.2) }
-
-pub bounds-table-used : goal.bounds-table-used
-bounds-table-used c = simp length-set (omega (arith, c.requires.1))
-
-pub bounds-table-used-2 : goal.bounds-table-used-2
-bounds-table-used-2 c = simp length-set (omega (arith, c.requires.1))
 
 pub returns : goal.returns
 unfolding added

@@ -1,35 +1,26 @@
--- `put_word` meets its contract: each turn stores the lowest byte of what is left.
-use Rattle.std.proofs.Common.{◌≡◌, ℕ, suc, ◌+◌, ◌-◌, ◌/◌, ◌%◌, ◌<◌, ◌≤◌, List, refl, sym, ap, ◌∙◌, arith, rules}
-use lib.ListN.{set, length-set}
-use Rattle.slices.specs.Put.{put}
-use Rattle.slices.specs.Laws.Put.{put_cons, put_none}
+-- `put_word` meets its contract: the library's bytes of a number, the lowest first, are those of the definition.
+use Rattle.std.specs.Int.{byte_at, bytes_low_first}
+use Rattle.std.proofs.Common.{◌≡◌, ℕ, zero, suc, ◌/◌, ◌%◌, ◌^◌, ◌∷◌, ap, ap₂, sym, ◌∙◌, arith, pow-suc, refl, zero-add}
+use Rattle.std.proofs.Math.Nat.{div-div-eq-div-mul, div-one}
+use Rattle.slices.specs.Laws.LittleEndian.{length_to_le_bytes}
+use Rattle.slices.specs.Laws.Put.{put_parts}
 use Rattle.slices.specs.LittleEndian.{to_le_bytes}
-use Rattle.host.proofs.put_word.Invariants.{Left}
 use Rattle.host.proofs.put_word.Goals as goal
 
-module _ (whole before out : List ℕ) (rest i : ℕ) (l : Left whole before out rest i) where
-  more : i < 8 → Left whole before (set out i (rest % 256)) (rest / 256) (i + 1)
-  unfolding to_le_bytes
-  more h =
-      let k : 8 - i ≡ suc (8 - (i + 1)) = omega arith in
-      record {
-        most = omega arith;
-        makes = put_cons out i (rest % 256) (to_le_bytes (8 - (i + 1)) (rest / 256)) ∙ ap (λ (n : ℕ). put out i (to_le_bytes n rest)) (sym k) ∙ l.makes;
-        room = simp length-set l.room;
-        long = length-set out i (rest % 256) ∙ l.long;
-      }
+byte : (i n : ℕ) → byte_at i n ≡ n / 256 ^ i % 256
+byte zero n = omega arith
+byte (suc i) n = refl
 
-  done : 8 ≤ i → out ≡ whole
-  unfolding to_le_bytes
-  done h =
-      let k : 8 - i ≡ 0 = omega arith in
-      sym (put_none out i) ∙ ap (λ (n : ℕ). put out i (to_le_bytes n rest)) (sym k) ∙ l.makes
-
-pub loop-i-init : goal.loop-i-init
-loop-i-init c = record { most = search rules; makes = refl; room = c.requires; long = refl }
-
-pub loop-i-preserved : goal.loop-i-preserved
-loop-i-preserved c = more _ _ _ _ _ c.loop-i.invariant c.loop-i-test.true
+bytes : (i k n : ℕ) → bytes_low_first i k n ≡ to_le_bytes k (n / 256 ^ i)
+unfolding to_le_bytes
+bytes i zero n = refl
+bytes i (suc k) n =
+    let next : n / 256 ^ i / 256 ≡ n / 256 ^ suc i = div-div-eq-div-mul n (256 ^ i) 256 ∙ ap (λ (p : ℕ). n / p) (sym (pow-suc 256 i)) in
+    ap₂ ◌∷◌ (byte i n) (bytes (suc i) k n ∙ ap (to_le_bytes k) (sym next))
 
 pub returns : goal.returns
-returns c = done _ _ _ _ _ c.loop-i.invariant c.loop-i-test.false
+returns c =
+    let out = c.args.out.now in
+    let word = to_le_bytes 8 c.args.n in
+    let e : c.copy_from_slice.new.self ≡ word = c.copy_from_slice.ensures.after ∙ c.to_le_bytes.ensures ∙ bytes 0 8 c.args.n ∙ ap (to_le_bytes 8) (div-one c.args.n) in
+    rw (e, put_parts out 0 word (omega (arith, length_to_le_bytes 8 c.args.n)), zero-add, length_to_le_bytes)

@@ -1,12 +1,12 @@
 -- `rlc2_house_check` meets its contract: the number of `house_check` with tables of these lengths.
-use Rattle.std.proofs.Common.{◌≡◌, ℕ, ◌*◌, List, length, sym, ap, ◌∙◌}
+use Rattle.std.proofs.Common.{◌≡◌, ℕ, ◌*◌, List, length, ap, ◌∙◌}
 use lib.ListN.{length-replicate, replicate}
 use Rattle.payload.specs.Answers.{read_number}
 use Rattle.payload.specs.House.{house}
 use Rattle.payload.specs.Rows.{row_width}
 use Rattle.payload.specs.Tables.{Leaves, capacities_of, read_answer}
 use Rattle.payload.specs.declared.Capacities.{Capacities}
-use Rattle.payload.specs.declared.Read.{Read}
+use Rattle.payload.specs.Answers.{Read}
 use Rattle.host.specs.Host.{check_capacities}
 use Rattle.host.proofs.rlc2_house_check.Goals as goal
 
@@ -36,8 +36,8 @@ number_of names p h =
     number_is names p _ _ _ _ (length-replicate {A = ℕ} (512 * row_width) 0) (length-replicate {A = ℕ} (2 * 1024) 0) (length-replicate {A = ℕ} 512 0)
     (length-replicate {A = ℕ} (2 * 256) 0) h
 
-pub returns-in-Accepted : goal.returns-in-Accepted
-returns-in-Accepted c = ap read_number (sym c.in-Accepted.is) ∙ number_of c.args.names.now c.args.payload.now c.house_check.ensures
+pub returns-in-Ok : goal.returns-in-Ok
+returns-in-Ok c = rw c.in-Ok.is at (number_of c.args.names.now c.args.payload.now c.house_check.ensures)
 
-pub returns-in-Refused : goal.returns-in-Refused
-returns-in-Refused c = ap read_number (sym c.in-Refused.is) ∙ number_of c.args.names.now c.args.payload.now c.house_check.ensures
+pub returns-in-Err : goal.returns-in-Err
+returns-in-Err c = c.from.ensures ∙ (rw c.in-Err.is at (number_of c.args.names.now c.args.payload.now c.house_check.ensures))

@@ -14,6 +14,3 @@ ToRead bytes before t at count =
 
 abbrev pub invariant-loop-count : goal.invariant-loop-count
 invariant-loop-count l = ToRead l.bytes l.initial.numbers l.numbers l.at l.count
-
-abbrev pub decreases-loop-count : goal.decreases-loop-count
-decreases-loop-count l = length l.initial.numbers - l.count

@@ -1,18 +1,17 @@
 -- `rlc2_write_all` meets its contract. The loop's invariant: the bytes that are still written, put where the next go, make the whole.
-use mathlib.Core.Path.{◌≡◌, sym, ◌∙◌}
+use mathlib.Core.Path.{◌≡◌, sym}
 use mathlib.Core.List.{List}
 use Prim.Native.Nat.{ℕ, ◌+◌, ◌-◌, ◌≤◌, ◌<◌}
 use native.Mathlib.Nat.{sub-zero}
 use native.Mathlib.Omega.{arith}
 use lib.ListN.{length, get_or}
-use borrow.Author.Tests.{ltb-false, ltb-true}
+use borrow.Author.Tests.{ltb-true}
 use Rattle.slices.specs.Put.{put}
 use Rattle.varint.specs.Uleb128.{uleb128}
 use Rattle.host_leaves.specs.HostLeaves.{bytes_of}
 use Rattle.host_leaves.specs.Laws.HostLeaves.{bytes_end, bytes_more, bytes_full}
+use Rattle.host_leaves.proofs.Room.{fits}
 use Rattle.host_leaves.proofs.Loops.{left_none, left_run, left_start}
-use mathlib.Core.Bool.{Bool, false}
-use lib.Dec.{ltb}
 use Rattle.host_leaves.proofs.rlc2_write_all.Invariants.{ToWrite}
 use Rattle.host_leaves.proofs.rlc2_write_all.Goals as goal
 
@@ -37,31 +36,23 @@ module _ (numbers before t : List ℕ) (at i : ℕ) (l : ToWrite numbers before 
   end : length numbers ≤ i → Done numbers before t at
   end h = left_none _ _ _ t at _ l (bytes_end _ numbers i h)
 
-pub loop-i-init : goal.loop-i-init
-loop-i-init c = (omega arith, begin c.args.numbers.now c.args.out.now)
+pub loop-n-init : goal.loop-n-init
+loop-n-init c = begin c.args.numbers.now c.args.out.now
 
 pub returns-then-too_wide : goal.returns-then-too_wide
 returns-then-too_wide c =
-    let done = full _ _ _ _ _ c.loop-i.invariant.1 c.loop-i-test.true (ltb-true _ _ (sym c.too_wide.ensures ∙ c.if-too_wide.true)) in
+    let done = full _ _ _ _ _ c.loop-n.invariant c.loop-n-test.true (ltb-true _ _ (sym c.if-too_wide.ensures)) in
     record { value = done.0; out_after = done.1 }
 
--- there is room for the number to write
-fits : (numbers out : List ℕ) (at i : ℕ) {r : Bool} → at ≤ length out → r ≡ ltb (length out - at) (length (uleb128 (get_or numbers i 0))) → r ≡ false
-    → at + length (uleb128 (get_or numbers i 0)) ≤ length out
-fits numbers out at i h e f =
-    let narrow : length (uleb128 (get_or numbers i 0)) ≤ length out - at = ltb-false _ _ (sym e ∙ f) in
-    omega arith
-
 pub write_uvarint-at-requires : goal.write_uvarint-at-requires
-write_uvarint-at-requires c =
-    fits c.args.numbers.now c.loop-i.out c.loop-i.at c.loop-i.i c.loop-i.invariant.1.inside c.too_wide.ensures c.if-too_wide.false
+write_uvarint-at-requires c = fits c.loop-n.out c.loop-n.at _ c.loop-n.invariant.inside c.if-too_wide.ensures
 
-pub loop-i-preserved : goal.loop-i-preserved
-loop-i-preserved c =
-    let room = fits c.args.numbers.now c.loop-i.out c.loop-i.at c.loop-i.i c.loop-i.invariant.1.inside c.too_wide.ensures c.if-too_wide.false in
-    (omega arith, more _ _ _ _ _ c.loop-i.invariant.1 _ _ c.loop-i-test.true room c.write_uvarint-at.ensures.0 c.write_uvarint-at.ensures.1)
+pub loop-n-preserved : goal.loop-n-preserved
+loop-n-preserved c =
+    let room = fits c.loop-n.out c.loop-n.at _ c.loop-n.invariant.inside c.if-too_wide.ensures in
+    more _ _ _ _ _ c.loop-n.invariant _ _ c.loop-n-test.true room c.write_uvarint-at.ensures.0 c.write_uvarint-at.ensures.1
 
 pub returns : goal.returns
 returns c =
-    let done = end _ _ _ _ _ c.loop-i.invariant.1 c.loop-i-test.false in
+    let done = end _ _ _ _ _ c.loop-n.invariant c.loop-n-test.false in
     record { value = done.0; out_after = done.1 }

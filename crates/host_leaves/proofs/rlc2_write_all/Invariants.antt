@@ -1,5 +1,5 @@
 use mathlib.Core.List.{List}
-use Prim.Native.Nat.{ℕ, ◌-◌, ◌≤◌}
+use Prim.Native.Nat.{ℕ, ◌-◌}
 use lib.ListN.{length, drop}
 use Rattle.slices.specs.Put.{put}
 use Rattle.host_leaves.specs.HostLeaves.{bytes_of}
@@ -11,8 +11,5 @@ abbrev pub ToWrite : (numbers before t : List ℕ) (at i : ℕ) → Type 0
 ToWrite numbers before t at i =
     Left before (put before 0 (bytes_of (length before) numbers)) (length (bytes_of (length before) numbers)) t at (bytes_of (length before - at) (drop i numbers))
 
-abbrev pub invariant-loop-i : goal.invariant-loop-i
-invariant-loop-i l = (l.i ≤ length l.numbers) × ToWrite l.numbers l.initial.out l.out l.at l.i
-
-abbrev pub decreases-loop-i : goal.decreases-loop-i
-decreases-loop-i l = length l.numbers - l.i
+abbrev pub invariant-loop-n : goal.invariant-loop-n
+invariant-loop-n l = ToWrite l.numbers l.initial.out l.out l.at l.n-index

@@ -5,7 +5,7 @@ use Rattle.slices.specs.Zeros.{pad_to}
 use Rattle.payload.specs.Tables.{capacities_of}
 use Rattle.payload.specs.Write.{Writing, held_tables, write_tables, write_answer, writing_fields, written_over, written_pool, WriteLeaves}
 use Rattle.payload.specs.declared.Program.{Program}
-use Rattle.payload.specs.declared.Written.{Written}
+use Rattle.payload.specs.Answers.{Written}
 use Rattle.answer.specs.PutIfRoom.{put_if_room}
 use Rattle.payload.specs.Answers.{written_fields, written_number}
 use Rattle.host_tables.specs.Write.{program_of, host_writing}

@@ -7,7 +7,6 @@ use native.Mathlib.Numerals.{add-one}
 use lib.Dec.{ltb}
 use lib.ListN.{length, get_or, drop, drop_of_length-le}
 use lib.Seq.{drop-cons}
-use borrow.Author.Rules.{rules}
 use Rattle.payload.specs.Choice.{◌and◌}
 use Rattle.house.specs.Written.{all_positions}
 use Rattle.house.proofs.are_positions.Goals as goal
@@ -26,20 +25,16 @@ unfolding all_positions ◌and◌
 none_left true ws k h = rw (drop_of_length-le ws h)
 none_left false ws k h = refl
 
-pub loop-k-init : goal.loop-k-init
+pub loop-word-init : goal.loop-word-init
 unfolding ◌and◌
-loop-k-init c = (search rules, refl)
+loop-word-init c = refl
 
-pub loop-k-preserved : goal.loop-k-preserved
-loop-k-preserved c =
-    let loop = c.loop-k in
+pub loop-word-preserved : goal.loop-word-preserved
+loop-word-preserved c =
+    let loop = c.loop-word in
     let ws = c.args.words.now in
-    let ok = loop.ok in
-    let k = loop.k in (
-      search rules,
-      loop.invariant.1 ∙ ap (λ (r : Bool). ok and r) (next ws k c.loop-k-test.true)
-          ∙ step ok (ltb (get_or ws k 0) (2 ^ 63)) (all_positions (drop (k + 1) ws)),
-    )
+    let k = loop.word-index in
+    loop.invariant ∙ ap (λ (r : Bool). loop.ok and r) (next ws k c.loop-word-test.true) ∙ step loop.ok (ltb (get_or ws k 0) (2 ^ 63)) (all_positions (drop (k + 1) ws))
 
 pub returns : goal.returns
-returns c = sym (c.loop-k.invariant.1 ∙ none_left c.loop-k.ok c.args.words.now c.loop-k.k c.loop-k-test.false)
+returns c = sym (c.loop-word.invariant ∙ none_left c.loop-word.ok c.args.words.now c.loop-word.word-index c.loop-word-test.false)

@@ -1,9 +1,11 @@
 -- What the tests of the house check say of a payload that was read.
-use Rattle.std.specs.Prelude.{Bool, false, ◌≡◌, ◌*◌, ◌+◌, ◌-◌, ◌/◌, ◌<◌, ◌^◌, ◌≤◌, suc, zero, ℕ, ltb, get_or}
+use Rattle.std.specs.Prelude.{Bool, false, ◌≡◌, ◌*◌, ◌+◌, ◌/◌, ◌<◌, ◌^◌, ◌≤◌, suc, zero, ℕ, ltb, get_or}
+use Rattle.std.specs.Prelude as std
+use Rattle.std.specs.Option.{option_eq}
 use Rattle.std.proofs.Math.Bool.{true}
 use mathlib.Core.List.{List, [], ◌++◌, ◌∷◌}
 use Rattle.std.proofs.Math.Option.{Option, none, some}
-use Rattle.std.proofs.Common.{◌∙◌, ap₂, subst, arith, take_at}
+use Rattle.std.proofs.Common.{None, Some, eqb, not, eqb-true, eq-eqb, ◌∙◌, ap₂, subst, arith, take_at, length-take-le}
 use Rattle.std.proofs.Math.Path.{ap, refl, sym}
 use Rattle.std.proofs.Math.ListN.{drop, length, take}
 use Rattle.std.proofs.Math.Seq.{drop-length}
@@ -21,7 +23,8 @@ use Rattle.payload.specs.Laws.Pool.{and_both, false≢true}
 use Rattle.payload.proofs.Laws.ReadSound.{ReadIs, read_is, rows_counted, spans_counted}
 use Rattle.payload.specs.Laws.Rules.{SoundScript}
 use Rattle.payload.proofs.Laws.SoundTables.{holds_sound}
-use Rattle.payload.specs.Laws.Tables.{length_parts_words}
+use Rattle.payload.specs.Answers.{flag_of, length_of, offset_of, program_of}
+use Rattle.payload.specs.Laws.Tables.{flag_of_line, length_of_line, length_parts_words, offset_of_line}
 use Rattle.payload.specs.Names.{is_listed}
 use Rattle.payload.specs.Reader.{Part, Result, State, ok, refused, start}
 use Rattle.payload.specs.Reading.{Payload, read_payload}
@@ -29,12 +32,12 @@ use Rattle.payload.specs.declared.Capacities.{Capacities}
 use Rattle.payload.specs.Rows.{part_words, row_table, row_width, span_table}
 use Rattle.payload.specs.Sound.{Tables, is_nil, script_of, tables}
 use Rattle.payload.specs.Spans.{Span, small_spans}
-use Rattle.payload.specs.Tables.{capacities_of, counts_of, line_starts, parts_words, read_answer, reading, size_limit, span_words, tables_of, used_pool, used_rows, used_spans, used_starts}
+use Rattle.payload.specs.Tables.{capacities_of, counts_of, line_flag, line_name, line_starts, parts_words, read_answer, reading, size_limit, span_words, tables_of, used_pool, used_rows, used_spans, used_starts}
 use Rattle.payload.specs.Trees.{LineIndex, Script, forget_line, forget_node, forget_script, single, start_count}
 use Rattle.payload.specs.Write.{interned_parts}
 use Rattle.payload.specs.Writing.{gathered, pool_of}
 use Rattle.payload.specs.declared.Counts.{Counts}
-use Rattle.payload.specs.declared.Read.TheVariants as read
+use Rattle.refusal.specs.Answer as read
 use Rattle.pool_index.specs.Laws.Distinct.{interned_distinct}
 use Rattle.pool_index.specs.Strings.{bytes_at, distinct, pool_strings}
 use Rattle.gather.specs.Gather.{name_parts, rows_parts}
@@ -42,7 +45,7 @@ use Rattle.gather.specs.Laws.Entries.{part_plain}
 use Rattle.gather.specs.Laws.SoundProgram.{strings_found}
 use Rattle.gather.specs.Laws.Parts.{bytes_of}
 use Rattle.pool_check.specs.Distinct.{PartsIn}
-use Rattle.pool_check.specs.Order.{Met, meet_all}
+use Rattle.pool_check.specs.Order.{Met, meet_all, Meets}
 use Rattle.pool_check.specs.Laws.PoolEntries.{Entries, gathered_entries}
 use Rattle.pool_check.specs.Laws.PoolOrder.{Rising, interned_order, order_interned, pool_rises}
 use Rattle.pool_check.specs.Laws.PoolRead.{read_pool_interned}
@@ -75,7 +78,7 @@ words_within p (x ∷ xs) h (suc k) l =
 
 ---- what an accepted read left
 
-accepted_ok : (n : Counts) (x : Result Payload) → read.Accepted n ≡ read_answer x → (u : Payload) × (s : State) × (x ≡ ok u s) × (n ≡ counts_of u s)
+accepted_ok : (n : Counts) (x : Result Payload) → read.accepted n ≡ read_answer x → (u : Payload) × (s : State) × (x ≡ ok u s) × (n ≡ counts_of u s)
 unfolding read_answer
 accepted_ok n (ok u s) e = (u, s, refl, cc)
 accepted_ok n (refused m q) e = let z : ◌≡◌ {A = ℕ} 0 1 = cc in absurd (omega arith)
@@ -92,22 +95,7 @@ start_count_lem u = go u.script.line
     go (some x) = unfold start_count forget_line line_starts in refl
 
 abbrev pub read_tables : List ℕ → Counts → List ℕ → List ℕ → List ℕ → Tables
-read_tables p n rows spans starts = tables p (take (row_width * n.rows) rows) (take (2 * n.spans) spans) (take n.starts starts) n.flag n.name_o n.name_n
-
--- the same as they are lent, from word 0 on
-abbrev pub lent_tables : List ℕ → Counts → List ℕ → List ℕ → List ℕ → Tables
-lent_tables p n rows spans starts = tables p (take (row_width * n.rows - 0) rows) (take (2 * n.spans - 0) spans) (take (n.starts - 0) starts) n.flag n.name_o n.name_n
-
-pub lent_words : (k : ℕ) (l : List ℕ) → take (k - 0) l ≡ take k l
-lent_words k l = let e : k - 0 ≡ k = omega arith in rw e
-
-pub lent_tables_lem : (p : List ℕ) (n : Counts) (rows spans starts : List ℕ) → lent_tables p n rows spans starts ≡ read_tables p n rows spans starts
-lent_tables_lem p n rows spans starts = λ i. tables p (lent_words (row_width * n.rows) rows i) (lent_words (2 * n.spans) spans i) (lent_words n.starts starts i) n.flag n.name_o n.name_n
-
-pub lent_met : (p : List ℕ) (n : Counts) (rows pool : List ℕ) {r : ℕ}
-    → Met (take (2 * n.strings - 0) pool) 0 (rows_parts p (length (take (row_width * n.rows - 0) rows) / row_width) (take (row_width * n.rows - 0) rows) ++ name_parts p n.flag n.name_o n.name_n) r
-    → Met (take (2 * n.strings) pool) 0 (rows_parts p (length (take (row_width * n.rows) rows) / row_width) (take (row_width * n.rows) rows) ++ name_parts p n.flag n.name_o n.name_n) r
-lent_met p n rows pool g = rw (lent_words (row_width * n.rows) rows, lent_words (2 * n.strings) pool) at g
+read_tables p n rows spans starts = tables p (take (row_width * n.rows) rows) (take (2 * n.spans) spans) (take n.starts starts) (program_of n).flag (program_of n).name_o (program_of n).name_n
 
 pub record WasRead (names p rows spans starts pool : List ℕ) (n : Counts) : Type 0 where
   pub u : Payload
@@ -144,6 +132,9 @@ module _ {names p rows spans starts pool : List ℕ} {n : Counts} (h : AcceptedR
       let spans-n : n.spans ≡ s.spans = ap (λ (m : Counts). m.spans) a.3 in
       let starts-n : n.starts ≡ length (line_starts u.script.line) = ap (λ (m : Counts). m.starts) a.3 in
       let strings-n : n.strings ≡ length u.pool = ap (λ (m : Counts). m.strings) a.3 in
+      let flag-n : flag_of n.name ≡ line_flag u.script.line = ap (λ (m : Counts). flag_of m.name) a.3 ∙ flag_of_line u.script.line in
+      let offset-n : offset_of n.name ≡ (line_name u.script.line).offset = ap (λ (m : Counts). offset_of m.name) a.3 ∙ offset_of_line u.script.line in
+      let length-n : length_of n.name ≡ length (line_name u.script.line).bytes = ap (λ (m : Counts). length_of m.name) a.3 ∙ length_of_line u.script.line in
       let r : take (row_width * n.rows) rows ≡ row_table ts = used_words_lem rows (row_table ts) (row_width * n.rows) (h.left.rows_are ∙ ap (λ (x : Result Payload). pad_to (length rows) (used_rows x)) e) (omega (arith, rows_counted f)) in
       let q : take (2 * n.spans) spans ≡ span_words (span_table ts) = used_words_lem spans (span_words (span_table ts)) (2 * n.spans) (h.left.spans_are ∙ ap (λ (x : Result Payload). pad_to (length spans)
       (used_spans x)) e) (omega (arith, spans_counted f)) in
@@ -161,7 +152,7 @@ module _ {names p rows spans starts pool : List ℕ} {n : Counts} (h : AcceptedR
         consumed = ap (λ (m : Counts). m.consumed) a.3;
         strings = strings-n;
         spans_are = q;
-        tables_are = λ i. tables p (r i) (q i) (t i) (a.3 i).flag (a.3 i).name_o (a.3 i).name_n;
+        tables_are = λ i. tables p (r i) (q i) (t i) (flag-n i) (offset-n i) (length-n i);
         pool_is = v;
         rows_fit = omega (arith, f.rows_are, f.rows_fit);
         spans_fit = omega (arith, f.spans_are, f.spans_fit);
@@ -170,6 +161,10 @@ module _ {names p rows spans starts pool : List ℕ} {n : Counts} (h : AcceptedR
       }
 
 ---- what the tests say
+
+not_false : (b : Bool) → false ≡ not b → b ≡ true
+not_false true e = refl
+not_false false e = false≢true e
 
 module _ {names p rows spans starts pool : List ℕ} {n : Counts} (w : WasRead names p rows spans starts pool n) (bytes : Bytes p) where
   abbrev caps : Capacities
@@ -270,6 +265,19 @@ module _ {names p rows spans starts pool : List ℕ} {n : Counts} (w : WasRead n
 
     pub not_met : {r : ℕ} → Met (take (2 * n.strings) pool) 0 found r → (r ≡ n.strings → ⊥) → false ≡ passes
     not_met m ne = refutes (λ e. ne (met_is m ∙ interned_order w.u.pool pool_rising (once_passed e) (gathered w.u.script) pool_entries (pool_of_passed e) ∙ sym w.strings))
+
+    -- a string comes too early
+    pub none_met : Meets (take (2 * n.strings) pool) 0 found None → false ≡ passes
+    none_met m = not_met m (λ e. omega (arith, length-take-le (2 * n.strings) pool w.strings_fit))
+
+    -- as the code tests it: the entries met are those of the pool, or they are not
+    pub all_met : (m : std.Option ℕ) → Meets (take (2 * n.strings) pool) 0 found m → false ≡ not (option_eq eqb m (Some n.strings)) → Met (take (2 * n.strings) pool) 0 found n.strings
+    all_met None m e = false≢true e
+    all_met (Some r) m e = rw (eqb-true _ _ (not_false _ e)) at m.0
+
+    pub others_met : (m : std.Option ℕ) → Meets (take (2 * n.strings) pool) 0 found m → true ≡ not (option_eq eqb m (Some n.strings)) → false ≡ passes
+    others_met None m e = none_met m
+    others_met (Some r) m e = not_met m.0 (λ q. false≢true (sym (e ∙ ap not (eq-eqb _ _ q))))
 
     -- strings that differ and are first used in the pool's order: the pool table is the one that gathering gives
     pub table_gathered : {r : ℕ} → Met (take (2 * n.strings) pool) 0 found r → r ≡ n.strings → distinct (pool_strings p (take (2 * n.strings) pool)) ≡ true → take (2 * n.strings) pool ≡ pool_words (script_of T)

@@ -16,7 +16,7 @@ returns-then-tag-eq6 c =
     let if1 = c.if-tag-rows in
     let x = c.args in
     rw (key_at x.bytes.now x.rows.now (row_width * x.i) (row_width * x.j), eq-eqb _ _ if1.false, eq-eqb _ _ c.if-tag-eq6.true)
-    c.same_string.ensures
+    (rw (c.part_in_row.ensures, c.part_in_row-then-tag-eq6.ensures) at c.same_string.ensures)
 
 pub returns : goal.returns
 returns c =

@@ -9,9 +9,10 @@ use mathlib.Core.List.{List}
 use native.Mathlib.Omega.{arith}
 use lib.ListN.{drop}
 use Rattle.key_test.proofs.seen_in.Invariants.{Searched}
+use Rattle.key_test.proofs.seen_in.Goals.{then-skip-eq0+else-same_key, else-skip-eq0}
 use Rattle.key_test.proofs.seen_in.Goals as goal
 
-module _ {p rows : List ℕ} {first own gap skip i : ℕ} (s : Searched p rows first own gap skip i) (h : i < own) where
+module _ {p rows : List ℕ} {first own gap skip i : ℕ} (s : Searched p rows first own gap skip i) (a : first ≤ i) (h : i < own) where
   zero_skip :
       skip ≡ 0 →
       seen_in p (drop (row_width * own) rows) gap 0 (own - first) (drop (row_width * first) rows)
@@ -24,21 +25,16 @@ module _ {p rows : List ℕ} {first own gap skip i : ℕ} (s : Searched p rows f
   hit z e = sym (zero_skip z ∙ seen_same p (drop (row_width * own) rows) gap rows own i h e)
 
   miss : skip ≡ 0 → same_key p (drop (row_width * own) rows) (drop (row_width * i) rows) ≡ false → gap ≤ 1 → Searched p rows first own gap gap (i + 1)
-  miss z e g = let a = s.from in record {
-    from = omega arith;
-    upto = omega arith;
+  miss z e g = record {
     small = omega arith;
     found = zero_skip z ∙ seen_other p (drop (row_width * own) rows) gap rows own i h e;
   }
 
   past : (skip ≡ 0 → ⊥) → (n : ℕ) → n ≡ rows_told (drop (row_width * i) rows) → n ≤ 2 * most_rows → Searched p rows first own gap (skip - 1 + n) (i + 1)
   past z n e m =
-      let a = s.from in
       let b = s.small in
       let k : skip ≡ suc (skip - 1) = omega arith in
       record {
-        from = omega arith;
-        upto = omega arith;
         small = omega arith;
         found = s.found ∙ ap (λ (j : ℕ). seen_in p (drop (row_width * own) rows) gap j (own - i) (drop (row_width * i) rows)) k
             ∙ seen_skip p (drop (row_width * own) rows) gap rows own i h (skip - 1)
@@ -48,18 +44,17 @@ module _ {p rows : List ℕ} {first own gap skip i : ℕ} (s : Searched p rows f
 pub returns-then-same_key : goal.returns-then-same_key
 returns-then-same_key c =
     let loop = c.loop-i in
-    hit loop.invariant c.loop-i-test.true c.if-skip-eq0.true (sym c.same_key.ensures ∙ c.if-same_key.true)
-
-pub loop-i-preserved-then-skip-eq0 : goal.loop-i-preserved-then-skip-eq0
-loop-i-preserved-then-skip-eq0 c =
-    let pre = c.requires in
-    miss c.loop-i.invariant c.loop-i-test.true c.if-skip-eq0.true (sym c.same_key.ensures ∙ c.if-same_key.false)
-    pre.3
+    hit loop.invariant loop.auto.i c.loop-i-test.true c.if-skip-eq0.true (sym c.same_key.ensures ∙ c.if-same_key.true)
 
 pub loop-i-preserved : goal.loop-i-preserved
 loop-i-preserved c =
-    past c.loop-i.invariant c.loop-i-test.true c.if-skip-eq0.false _ c.rows_told.ensures.0
-    c.rows_told.ensures.1
+    let loop = c.loop-i in
+    let pre = c.requires in
+    elim c.if-skip-eq0.branch [
+      | then-skip-eq0+else-same_key w ↦ rw w.skip-is
+          (miss loop.invariant loop.auto.i c.loop-i-test.true w.if-skip-eq0.true (sym w.same_key.ensures ∙ w.if-same_key.false) pre.3)
+      | else-skip-eq0 w ↦ rw w.skip-is (past loop.invariant loop.auto.i c.loop-i-test.true w.if-skip-eq0.false _ w.rows_told.ensures.0 w.rows_told.ensures.1)
+    ]
 
 pub returns : goal.returns
 returns c = sym (c.loop-i.invariant.found ∙ seen_end _ _ _ _ _ _ _ c.loop-i-test.false)

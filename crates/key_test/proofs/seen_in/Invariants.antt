@@ -8,8 +8,6 @@ use Rattle.key_test.proofs.seen_in.Given as goal
 
 -- the search from here on finds what the search from the start finds
 pub record Searched (p rows : List ℕ) (first own gap skip i : ℕ) : Type 0 where
-  pub from : first ≤ i
-  pub upto : i ≤ own
   pub small : skip ≤ (2 * most_rows + 1) * (i - first)
   pub found :
       seen_in p (drop (row_width * own) rows) gap 0 (own - first) (drop (row_width * first) rows)
@@ -17,6 +15,3 @@ pub record Searched (p rows : List ℕ) (first own gap skip i : ℕ) : Type 0 wh
 
 abbrev pub invariant-loop-i : goal.invariant-loop-i
 invariant-loop-i l = Searched l.bytes l.rows l.first l.own l.gap l.skip l.i
-
-abbrev pub decreases-loop-i : goal.decreases-loop-i
-decreases-loop-i l = l.own - l.i

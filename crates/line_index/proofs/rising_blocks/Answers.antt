@@ -7,5 +7,4 @@ use Rattle.line_index.proofs.rising_blocks.Goals as goal
 pub loop-i-preserved : goal.loop-i-preserved
 loop-i-preserved c =
     let at = c.loop-i in
-    let s = c.args.starts.now in
-    (omega arith, rises_on s 0 at.i (at.i + 32) at.invariant.1 (c.block_rises.ensures c.if-block_rises.true))
+    (omega arith, rises_on c.args.starts.now 0 at.i (at.i + 32) at.invariant.1 (c.block_rises.ensures c.if-block_rises.true))

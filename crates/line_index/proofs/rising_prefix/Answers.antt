@@ -1,29 +1,29 @@
 -- The starts before the loop's index rise, and the prefix goes on as far as those from there rise above the last.
-use mathlib.Core.Path.{sym}
+use Prim.Native.Nat.{◌+◌, ◌-◌}
+use mathlib.Core.Path.{◌≡◌, sym, ◌∙◌}
 use native.Mathlib.Omega.{arith}
+use lib.ListN.{get_or}
+use borrow.Author.Tests.{eqb-true}
 use Rattle.line_index.specs.Laws.LineCol.{rise_none, rise_run, rise_more, rise_stop, rise_end}
 use Rattle.line_index.proofs.rising_prefix.Goals as goal
 
-pub returns-then-starts-eq0 : goal.returns-then-starts-eq0
-returns-then-starts-eq0 c = sym (rise_none _ c.if-starts-eq0.true)
+pub returns-then-is_empty : goal.returns-then-is_empty
+returns-then-is_empty c = sym (rise_none _ (eqb-true _ 0 (sym c.is_empty.ensures ∙ c.if-is_empty.true)))
 
 pub loop-i-init : goal.loop-i-init
-loop-i-init c = (omega arith, omega arith, rise_run _ _ c.rising_blocks-b.ensures.upper_bound c.rising_blocks-b.ensures.rises)
+loop-i-init c =
+    let b = c.rising_blocks-i in
+    let before : b.result + 1 - 1 ≡ b.result = omega arith in
+    rw before (rise_run _ _ b.ensures.upper_bound b.ensures.rises)
 
-pub returns-then-x-last : goal.returns-then-x-last
-returns-then-x-last c =
-    let at = c.loop-i in
-    let s = c.args.starts.now in
-    omega (arith, rise_stop s at.i c.loop-i-test.true at.last c.if-x-last.true)
+pub returns-then-starts-i : goal.returns-then-starts-i
+returns-then-starts-i c = omega (arith, rise_stop c.args.starts.now c.loop-i.i c.loop-i-test.true _ c.if-starts-i.true)
 
 pub loop-i-preserved : goal.loop-i-preserved
 loop-i-preserved c =
     let at = c.loop-i in
-    let s = c.args.starts.now in
-    (omega arith, omega arith, omega (arith, rise_more s at.i c.loop-i-test.true at.last c.if-x-last.false))
+    let before : at.i + 1 - 1 ≡ at.i = omega arith in
+    rw before (omega (arith, rise_more c.args.starts.now at.i c.loop-i-test.true _ c.if-starts-i.false))
 
 pub returns : goal.returns
-returns c =
-    let at = c.loop-i in
-    let s = c.args.starts.now in
-    omega (arith, rise_end s at.i c.loop-i-test.false at.last)
+returns c = omega (arith, rise_end c.args.starts.now c.loop-i.i c.loop-i-test.false (get_or c.args.starts.now (c.loop-i.i - 1) 0))

@@ -3,7 +3,7 @@ use Rattle.std.specs.Prelude.{◌≡◌, refl, List, [], ◌∷◌, ℕ, zero, s
 use Rattle.std.proofs.Common.{subst, ⊎_elim, not-suc-le-zero, eq-zero-or-pos, add-one, arith, drop_of_length-le, lt-ltb, le-ltb, le-leb}
 use Rattle.std.proofs.Math.Seq.{drop-cons}
 use Rattle.std.proofs.lemmas.Bool.{lt-leb}
-use Rattle.line_index.specs.declared.LineCol.TheVariants.{At, Refused}
+use Rattle.refusal.specs.Answer.{accepted, refused}
 use Rattle.line_index.specs.LineCol.{rising_above, rising_prefix, not_above, line_at, column_at, line_col}
 use Rattle.line_index.specs.Rises.{Rises}
 
@@ -53,11 +53,11 @@ rise_run l (suc b) h r =
     omega (arith, rise_run l b (omega arith) (λ k z a. r k z (omega arith)))
 
 module _ (l : List ℕ) (offset : ℕ) where
-  pub not_rising : rising_prefix l < length l → line_col l offset ≡ Refused 20 (rising_prefix l)
+  pub not_rising : rising_prefix l < length l → line_col l offset ≡ refused 20 (rising_prefix l)
   unfolding line_col
   not_rising h = simp (lt-ltb (rising_prefix l) (length l) h)
 
-  pub rising : length l ≤ rising_prefix l → line_col l offset ≡ At (line_at l (offset % 2 ^ 32)) (column_at l (offset % 2 ^ 32))
+  pub rising : length l ≤ rising_prefix l → line_col l offset ≡ accepted (record { line = line_at l (offset % 2 ^ 32); column = column_at l (offset % 2 ^ 32) })
   unfolding line_col
   rising h = simp (le-ltb (rising_prefix l) (length l) h)
 

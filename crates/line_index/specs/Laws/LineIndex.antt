@@ -9,7 +9,7 @@ use Rattle.std.proofs.Math.ListN.{length, get_or, length-append}
 use Rattle.std.proofs.Math.Seq.{drop-cons, get_or-append_seam}
 use borrow.Author.Tests.{lt-ltb, le-ltb, le-leb, lt-leb, eq-eqb, ne_eqb}
 use Rattle.payload.specs.Tables.{size_limit}
-use Rattle.line_index.specs.declared.LineIndex.TheVariants.{Starts, Refused}
+use Rattle.refusal.specs.Answer.{accepted, refused}
 use Rattle.line_index.specs.LineIndex.{after_newlines, line_starts, capacity, line_index}
 
 module _ (t : List ℕ) (i : ℕ) (h : i < length t) where
@@ -26,21 +26,21 @@ unfolding after_newlines
 text_end t i h = rw (drop_of_length-le t h)
 
 module _ (t : List ℕ) (words : ℕ) where
-  pub too_long : size_limit < length t → line_index t words ≡ Refused 16 0
+  pub too_long : size_limit < length t → line_index t words ≡ refused 16 0
   unfolding line_index
   too_long h = simp (lt-ltb size_limit (length t) h)
 
-  pub no_room : length t ≤ size_limit → capacity words ≡ 0 → line_index t words ≡ Refused 24 0
+  pub no_room : length t ≤ size_limit → capacity words ≡ 0 → line_index t words ≡ refused 24 0
   unfolding line_index
   no_room h e = simp (le-ltb size_limit (length t) h, e, lt-leb (length (line_starts t)) 0 (omega arith))
 
-  pub made : length t ≤ size_limit → (n : ℕ) → n ≤ capacity words → length (line_starts t) ≡ n → line_index t words ≡ Starts n
+  pub made : length t ≤ size_limit → (n : ℕ) → n ≤ capacity words → length (line_starts t) ≡ n → line_index t words ≡ accepted (record { count = n })
   unfolding line_index
   made h n l e = simp (le-ltb size_limit (length t) h, e, le-leb n (capacity words) l)
 
   -- the starts in the table are as many as it takes, and one more follows, after the 0A at i
   pub full : length t ≤ size_limit → (i : ℕ) (s r : List ℕ) → capacity words ≡ length s → line_starts t ≡ s ++ (i + 1) ∷ r
-      → line_index t words ≡ Refused 24 i
+      → line_index t words ≡ refused 24 i
   unfolding line_index
   full h i s r c e =
       let a : length (line_starts t) ≡ length s + suc (length r) = ap length e ∙ length-append s ((i + 1) ∷ r) in

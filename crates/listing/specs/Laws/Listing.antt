@@ -1,7 +1,7 @@
 -- Zeros past the used rows of a table change nothing in its listing.
 use Rattle.std.specs.Prelude.{◌≡◌, refl, List, [], ◌∷◌, ◌++◌, ℕ, zero, suc, ◌-◌, get_or, length}
 use Rattle.std.proofs.Common.{ap, ap₂}
-use Rattle.payload.specs.declared.Read.{Read}
+use Rattle.payload.specs.Answers.{Read}
 use Rattle.slices.specs.Zeros.{pad_to, zeros}
 use Rattle.listing.specs.Listing.{last_line, listed_rows, listing, row_line, row_lines}
 

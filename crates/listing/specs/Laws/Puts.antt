@@ -4,8 +4,9 @@ use Rattle.std.proofs.Common.{sym, ap, ◌∙◌, add-zero, arith, length-append
 use Rattle.std.proofs.lemmas.List.{length-replicate}
 use Rattle.slices.specs.Put.{put}
 use Rattle.slices.specs.Laws.Put.{length_put, put_last, put_none, put_put}
+use Rattle.listing.specs.declared.Text.{Text}
 use Rattle.listing.specs.Listing.{column, decimal}
-use Rattle.listing.specs.Puts.{Puts}
+use Rattle.listing.specs.Puts.{Adds, Puts}
 
 pub puts_none : (out : List ℕ) (at : ℕ) → Puts out at [] at out
 puts_none out at = record { end_is = sym (add-zero at); out_is = sym (put_none out at) }
@@ -21,6 +22,12 @@ puts_then {out} {out'} {out''} {s} {t} {at} {i} {j} p q = record {
 
 pub puts_length : {out out' s : List ℕ} {at i : ℕ} → Puts out at s i out' → length out' ≡ length out
 puts_length {out} {out'} {s} {at} p = ap length p.out_is ∙ length_put out at s
+
+pub adds_none : (t : Text) → Adds t [] t
+adds_none t = record { puts = puts_none _ _; long = refl; same_reference = refl }
+
+pub adds_then : {t t' t'' : Text} {s u : List ℕ} → Adds t s t' → Adds t' u t'' → Adds t (s ++ u) t''
+adds_then p q = record { puts = puts_then p.puts q.puts; long = q.long ∙ p.long; same_reference = q.same_reference ∙ p.same_reference }
 
 -- spaces, and then the digits of a number
 pub puts_column : {out out' out'' : List ℕ} (at spaces width n k : ℕ) (digits : List ℕ) → digits ≡ decimal n → length digits ≡ k → spaces ≡ width - k

@@ -16,13 +16,13 @@ use Rattle.payload.specs.Laws.Pool.{false≢true}
 use Rattle.payload.proofs.Laws.ReadSound.{read_is, rows_counted, spans_counted}
 use Rattle.payload.proofs.Laws.Refusals.{house_refusal}
 use Rattle.payload.specs.Laws.Rules.{Small}
-use Rattle.payload.specs.Laws.Tables.{length_parts_words}
+use Rattle.payload.specs.Laws.Tables.{flag_of_line, length_of_line, length_parts_words, offset_of_line}
 use Rattle.payload.specs.Names.{is_listed}
 use Rattle.payload.specs.Reader.{Part, Result, ok, refused}
 use Rattle.payload.specs.Reading.{Payload}
 use Rattle.payload.specs.Rows.{row_table, row_width, span_table}
 use Rattle.payload.specs.declared.Capacities.{Capacities}
-use Rattle.payload.specs.declared.Read.{Read}
+use Rattle.payload.specs.Answers.{Read}
 use Rattle.payload.specs.Sound.{Tables}
 use Rattle.payload.specs.Tables.{Leaves, capacities_of, fields_of, parts_words, read_answer, reading, span_words, tables_of, used_pool, used_rows, used_spans, used_starts}
 use Rattle.payload.specs.Trees.{forget_script, single}
@@ -60,7 +60,7 @@ module _ (c : Capacities) (names p : List ℕ) (bytes : Bytes p) where
       let rows : s.rows ≡ length (row_table (single u.script.outer)) / row_width = omega (arith, rows_counted k) in
       let spans : s.spans ≡ length (span_words (span_table (single u.script.outer))) / 2 = omega (arith, spans_counted k) in
       let strings : length u.pool ≡ length (parts_words u.pool) / 2 = omega (arith, length_parts_words u.pool) in
-      rw (rows, spans, strings)
+      rw (rows, spans, strings, flag_of_line u.script.line, offset_of_line u.script.line, length_of_line u.script.line)
 
 pub written_fields_lem : (x : Writing) → written_fields (write_answer x) ≡ writing_fields x
 unfolding write_answer writing_fields
@@ -104,9 +104,9 @@ module _ (names p : List ℕ) (bytes : Bytes p) (rows spans starts pool : List �
         rows_used = rows_counted k;
         spans_used = spans_counted k;
         starts_used = refl;
-        flag_is = refl;
-        name_offset_is = refl;
-        name_length_is = refl;
+        flag_is = sym (flag_of_line u.script.line);
+        name_offset_is = sym (offset_of_line u.script.line);
+        name_length_is = sym (length_of_line u.script.line);
         rows_are = h.rows_are ∙ ap (λ (x : Result Payload). pad_to (length rows) (used_rows x)) b.2;
         spans_are = h.spans_are ∙ ap (λ (x : Result Payload). pad_to (length spans) (used_spans x)) b.2;
         starts_are = h.starts_are ∙ ap (λ (x : Result Payload). pad_to (length starts) (used_starts x)) b.2;

@@ -10,8 +10,8 @@ use borrow.Author.Tests.{leb-true, ltb-true}
 use Rattle.slices.specs.Laws.LittleEndian.{Bytes}
 use Rattle.varint.specs.Laws.RoundTrip.{reads_within}
 use Rattle.varint.specs.Varint.{varint_of}
-use Rattle.varint.specs.declared.Varint.{Varint}
-use Rattle.varint.specs.declared.Varint.TheVariants.{Number, Refused}
+use Rattle.varint.specs.Varint.{Varint}
+use Rattle.varint.specs.Varint.{Number, Refused}
 use Rattle.payload.proofs.Laws.ScanWritten.{InStore}
 use Rattle.payload.specs.Numbers.{after_varint, varint}
 use Rattle.payload.specs.Reader.{Part, Reader, Result, State, ◌>>=◌, ◌>>◌, advanced, and_then, body, byte, first_byte, here, must, new_row, new_spans, ok, pure, refused, with_row, with_spans}

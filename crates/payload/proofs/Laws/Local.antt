@@ -4,8 +4,8 @@ use Rattle.std.proofs.Common.{append_assoc, append-nil, ◌∙◌, ap, subst, sy
 use Rattle.std.proofs.Math.Seq.{take-append_seam}
 use Rattle.varint.specs.Laws.RoundTrip.{reads_within}
 use Rattle.varint.specs.Varint.{cut, scan, under, varint_of}
-use Rattle.varint.specs.declared.Varint.{Varint}
-use Rattle.varint.specs.declared.Varint.TheVariants.{Number, Refused}
+use Rattle.varint.specs.Varint.{Varint}
+use Rattle.varint.specs.Varint.{Number, Refused}
 use Rattle.payload.proofs.Laws.Everywhere.{Closed, everywhere}
 use Rattle.payload.proofs.Laws.Keeps.{invert, not_ok}
 use Rattle.payload.specs.Moved.{with_rest}

@@ -6,7 +6,7 @@ use Rattle.std.proofs.Math.ListN.{length}
 use Rattle.varint.specs.Laws.RoundTrip.{reads_uleb}
 use Rattle.varint.specs.Uleb128.{uleb128}
 use Rattle.varint.specs.Varint.{varint_of}
-use Rattle.varint.specs.declared.Varint.TheVariants.{Number}
+use Rattle.varint.specs.Varint.{Number}
 use Rattle.payload.specs.Laws.Gives.{Gives, after_bytes}
 use Rattle.payload.specs.Numbers.{after_varint, varint}
 use Rattle.payload.specs.Reader.{ok}

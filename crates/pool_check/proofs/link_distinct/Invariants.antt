@@ -1,10 +1,5 @@
-use Prim.Native.Nat.{◌-◌, ◌/◌}
-use lib.ListN.{length}
 use Rattle.pool_check.specs.Laws.Distinct.{Linking}
 use Rattle.pool_check.proofs.link_distinct.Given as goal
 
 abbrev pub invariant-loop-k : goal.invariant-loop-k
 invariant-loop-k l = Linking l.store l.initial.pool l.pool l.k
-
-abbrev pub decreases-loop-k : goal.decreases-loop-k
-decreases-loop-k l = length l.initial.pool / 2 - l.k

@@ -1,11 +1,7 @@
-use Prim.Native.Nat.{◌-◌, ◌/◌}
+use Prim.Native.Nat.{◌/◌, ◌≤◌}
 use lib.ListN.{length}
-use Rattle.payload.specs.Rows.{row_width}
 use Rattle.pool_check.specs.Laws.Order.{RowsMet}
 use Rattle.pool_check.proofs.meet_rows.Given as goal
 
 abbrev pub invariant-loop-i : goal.invariant-loop-i
-invariant-loop-i l = RowsMet l.store l.rows l.pool l.i l.met
-
-abbrev pub decreases-loop-i : goal.decreases-loop-i
-decreases-loop-i l = length l.rows / row_width - l.i
+invariant-loop-i l = RowsMet l.store l.rows l.pool l.i l.met × (l.met ≤ length l.pool / 2)

@@ -13,8 +13,8 @@ use Rattle.slices.specs.Laws.Same.{same_eq, same_refl}
 use Rattle.slices.specs.Same.{same}
 use Rattle.varint.specs.Laws.RoundTrip.{reads_within}
 use Rattle.varint.specs.Varint.{varint_of}
-use Rattle.varint.specs.declared.Varint.{Varint}
-use Rattle.varint.specs.declared.Varint.TheVariants.{Number, Refused}
+use Rattle.varint.specs.Varint.{Varint}
+use Rattle.varint.specs.Varint.{Number, Refused}
 use Rattle.payload.specs.Choice.{◌or◌, when◌then◌else◌}
 use Rattle.payload.proofs.Laws.Keeps.{invert, not_ok}
 use Rattle.payload.specs.Numbers.{after_varint, varint}

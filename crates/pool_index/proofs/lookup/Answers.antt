@@ -5,7 +5,7 @@ use Rattle.pool_index.specs.Strings.{entry_bytes, pool_strings, distinct}
 use Rattle.slices.specs.Same.{same}
 use Rattle.payload.specs.Pool.{index_of}
 use Prim.Native.Nat.{ℕ, ◌/◌, ◌<◌}
-use mathlib.Core.Path.{◌≡◌, sym, ◌∙◌}
+use mathlib.Core.Path.{◌≡◌, refl, sym}
 use mathlib.Core.Bool.{true}
 use mathlib.Core.List.{List}
 use lib.ListN.{length}
@@ -13,26 +13,18 @@ use Rattle.pool_index.proofs.lookup.Goals as goal
 
 -- an entry that has the string is the first
 at_entry :
-    (s pool : List ℕ) (k : ℕ) (x : List ℕ) → distinct (pool_strings s pool) ≡ true → k < length pool / 2 → same x (entry_bytes s pool k) ≡ true →
+    (s pool : List ℕ) (k : ℕ) (x : List ℕ) → distinct (pool_strings s pool) ≡ true → (k < length pool / 2) × (same x (entry_bytes s pool k) ≡ true) →
     k ≡ index_of x (pool_strings s pool)
-at_entry s pool k x d l e = sym (index_at x (pool_strings s pool) k d (rw length_strings l) (rw (strings_at s pool k l) e))
+at_entry s pool k x d has = sym (index_at x (pool_strings s pool) k d (rw length_strings has.0) (rw (strings_at s pool k has.0) has.1))
 
-pub returns-then-entry_is : goal.returns-then-entry_is
-returns-then-entry_is c =
-    at_entry c.args.store.now c.args.pool.now c.args.expected _ c.requires c.if-expected-count.true
-    (sym c.entry_is.ensures ∙ c.if-entry_is.true)
+pub returns-then-is_at : goal.returns-then-is_at
+returns-then-is_at c = at_entry c.args.store.now c.args.pool.now c.args.expected _ c.requires (c.if-is_at.ensures.0 refl)
 
-pub returns-then-entry_is-2 : goal.returns-then-entry_is-2
-returns-then-entry_is-2 c =
-    at_entry c.args.store.now c.args.pool.now c.by_offset-i.result _ c.requires c.if-i-count.true
-    (sym c.entry_is-then-i-count.ensures ∙ c.if-entry_is-2.true)
+pub returns-then-is_at-2 : goal.returns-then-is_at-2
+returns-then-is_at-2 c = at_entry c.args.store.now c.args.pool.now c.by_offset-i.result _ c.requires (c.if-is_at-2.ensures.0 refl)
 
-pub returns-then-j-count : goal.returns-then-j-count
-returns-then-j-count c =
-    at_entry c.args.store.now c.args.pool.now c.by_hash-j.result _ c.requires c.if-j-count.true
-    (c.by_hash-j.ensures c.if-j-count.true)
+pub returns-in-Some : goal.returns-in-Some
+returns-in-Some c = at_entry c.args.store.now c.args.pool.now c.in-Some.j _ c.requires c.in-Some.ensures
 
-pub returns-then-entry_is-3 : goal.returns-then-entry_is-3
-returns-then-entry_is-3 c =
-    at_entry c.args.store.now c.args.pool.now c.by_offset-k.result _ c.requires c.if-k-count.true
-    (sym c.entry_is-then-k-count.ensures ∙ c.if-entry_is-3.true)
+pub returns-then-is_at-3 : goal.returns-then-is_at-3
+returns-then-is_at-3 c = at_entry c.args.store.now c.args.pool.now c.by_offset-k.result _ c.requires (c.if-is_at-3.ensures.0 refl)

@@ -13,6 +13,3 @@ returns-then-n-n2 c =
     sym
     (ap₂ (λ (x y : ℕ). same (bytes_at s x y) (bytes_at s args.o2 args.n2)) c.if-o-o2.true c.if-n-n2.true
     ∙ same_refl (bytes_at s args.o2 args.n2))
-
-pub returns : goal.returns
-returns c = c.equal.ensures ∙ ap₂ same c.bytes_at.ensures c.bytes_at-2.ensures

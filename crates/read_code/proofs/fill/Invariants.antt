@@ -1,14 +1,8 @@
-use Prim.Native.Nat.{◌-◌, ◌*◌, ◌≤◌}
-use mathlib.Core.Path.{◌≡◌}
-use lib.ListN.{length, replicate}
+use Rattle.std.specs.Prelude.{◌≡◌, ◌*◌, replicate}
 use Rattle.slices.specs.Put.{put}
 use Rattle.payload.specs.Tables.{span_words}
 use Rattle.read_code.specs.Runs.{span_of}
 use Rattle.read_code.proofs.fill.Given as goal
 
 abbrev pub invariant-loop-k : goal.invariant-loop-k
-invariant-loop-k l =
-    (l.k ≤ l.n) × (length l.spans ≡ length l.initial.spans) × (l.spans ≡ put l.initial.spans (2 * l.from) (span_words (replicate l.k (span_of l.start l.end))))
-
-abbrev pub decreases-loop-k : goal.decreases-loop-k
-decreases-loop-k l = l.n - l.k
+invariant-loop-k l = l.spans ≡ put l.initial.spans (2 * l.from) (span_words (replicate l.k (span_of l.span)))

@@ -1,8 +1,6 @@
 -- `fill_up_to_four` meets its contract: each store is the next span, or the last one again.
-use Prim.Native.Nat.{◌*◌, min}
-use mathlib.Core.Path.{◌≡◌, sym, ◌∙◌}
-use native.Mathlib.Omega.{arith}
-use lib.ListN.{replicate}
+use Rattle.std.specs.Prelude.{◌≡◌, ◌*◌, min, replicate}
+use Rattle.std.proofs.Common.{arith, sym, ◌∙◌}
 use Rattle.slices.specs.Put.{put}
 use Rattle.slices.specs.Laws.Put.{put_none}
 use Rattle.payload.specs.Tables.{span_words}
@@ -18,12 +16,12 @@ returns c =
     let xs = args.spans.now in
     let from = args.from in
     let n = args.n in
-    let s = span_of args.start args.end in
+    let s = span_of args.span in
     let zero : min 0 n ≡ 0 = omega arith in
     let none : xs ≡ put xs (2 * from) (span_words (replicate (min 0 n) s)) = rw zero (sym (put_none xs (2 * from))) in
-    let one = c.store_span.ensures ∙ span_next xs xs from n 0 _ s pre.0 (omega (arith, pre)) none in
-    let two = c.store_span-2.ensures ∙ span_next xs _ from n 1 _ s pre.0 (omega (arith, pre, c.least.ensures)) one in
-    let three = c.store_span-3.ensures ∙ span_next xs _ from n 2 _ s pre.0 (omega (arith, pre, c.least-2.ensures)) two in
-    let four = c.store_span-4.ensures ∙ span_next xs _ from n 3 _ s pre.0 (omega (arith, pre)) three in
-    let all : min 4 n ≡ n = omega (arith, pre) in
+    let one = c.store_span.ensures ∙ span_next xs xs from n 0 _ s pre.0 (omega arith) none in
+    let two = c.store_span-2.ensures ∙ span_next xs _ from n 1 _ s pre.0 (omega arith) one in
+    let three = c.store_span-3.ensures ∙ span_next xs _ from n 2 _ s pre.0 (omega arith) two in
+    let four = c.store_span-4.ensures ∙ span_next xs _ from n 3 _ s pre.0 (omega arith) three in
+    let all : min 4 n ≡ n = omega arith in
     rw all at four

@@ -1,10 +1,5 @@
 use Rattle.read_code.proofs.Runs.{Filling}
 use Rattle.read_code.proofs.read_runs.Given as goal
 
-abbrev pub invariant-loop-left : goal.invariant-loop-left
-invariant-loop-left l =
-    Filling l.bytes l.initial.spans l.spans l.used l.size l.count l.at l.from l.left l.start l.end l.next
-
-abbrev pub decreases-loop-left : goal.decreases-loop-left
-decreases-loop-left l =
-    l.left
+abbrev pub invariant-loop-k : goal.invariant-loop-k
+invariant-loop-k l = Filling l.initial.cursor l.cursor l.initial.spans l.spans l.used l.size l.count l.from l.k l.run

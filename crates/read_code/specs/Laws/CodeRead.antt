@@ -1,15 +1,18 @@
 -- What was read, from the variant that a match found.
-use Rattle.std.specs.Prelude.{List, ◌≡◌, ℕ}
+use Rattle.std.specs.Prelude.{List, ◌≡◌, ℕ, Result, Ok, Err}
+use Rattle.refusal.specs.Number.{number}
+use Rattle.refusal.specs.declared.Refusal.{Refusal}
 use Rattle.payload.specs.Reader.{refused}
 use Rattle.payload.specs.Spans.{read_code}
-use Rattle.read_items.specs.Reads.{state_at}
+use Rattle.payload.specs.declared.Extent.{Extent}
+use Rattle.cursor.specs.Reads.{state_at}
+use Rattle.cursor.specs.declared.Cursor.{Cursor}
 use Rattle.read_code.specs.CodeRead.{Accepted, CodeRead}
-use Rattle.read_code.specs.declared.CodeAt.{CodeAt}
-use Rattle.read_code.specs.declared.CodeAt.TheVariants.{Code, Refused}
 
-module _ {p table table' : List ℕ} {used most at : ℕ} {r : CodeAt} where
-  pub was_code : {o n next : ℕ} → r ≡ Code o n next → CodeRead p table table' used most at r → Accepted p table table' used most at o n next
+module _ {c c' : Cursor} {table table' : List ℕ} {used most : ℕ} {r : Result Extent Refusal} where
+  pub was_code : {x : Extent} → r ≡ Ok x → CodeRead c c' table table' used most r → Accepted c.payload.now table table' used most c.at x c'.at
   was_code w g = (rw w at g).outcome
 
-  pub no_code_lem : {n q : ℕ} → r ≡ Refused n q → CodeRead p table table' used most at r → (rows : ℕ) → read_code most (state_at p at rows used) ≡ refused n q
+  pub no_code_lem : {e : Refusal} → r ≡ Err e → CodeRead c c' table table' used most r
+      → (rows : ℕ) → read_code most (state_at c.payload.now c.at rows used) ≡ refused (number e.reason) e.place
   no_code_lem w g = (rw w at g).outcome

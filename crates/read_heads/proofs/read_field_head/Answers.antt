@@ -1,9 +1,15 @@
--- `read_field_head` meets its contract: the head of a string is a field's.
+-- `read_field_head` meets its contract: the head of a string is a field's, or no string is read.
+use Rattle.std.specs.Prelude.{refl}
 use Rattle.payload.specs.Choice.{when◌then◌else◌}
-use Rattle.payload.specs.Shapes.{shape}
-use Rattle.read_heads.specs.Laws.Heads.{head_field}
+use Rattle.payload.specs.Shapes.{kinds_of, shape}
+use Rattle.refusal.specs.Laws.Errors.{same_error}
+use Rattle.read_heads.specs.Laws.Heads.{head_field, no_string}
 use Rattle.read_heads.proofs.read_field_head.Goals as goal
+
+pub returns-in_err-read_pool_index : goal.returns-in_err-read_pool_index
+unfolding kinds_of shape when◌then◌else◌
+returns-in_err-read_pool_index c = λ names. rw (same_error c.from_residual.result _ c.from_residual.ensures.1) (no_string refl c.in_err-read_pool_index.ensures)
 
 pub returns : goal.returns
 unfolding shape when◌then◌else◌
-returns c = λ names. rw c.part_head.ensures (head_field c.read_pool_index.result c.read_pool_index.ensures)
+returns c = λ names. rw c.of_part.ensures (head_field c.in_ok-read_pool_index.ensures)

@@ -1,27 +1,10 @@
--- `read_record_head` meets its contract: name and count are read, or the one that is not stops the head.
-use Rattle.payload.specs.Shapes.{kinds_of}
-use Rattle.read_heads.specs.Class.{shape_of}
-use Rattle.read_heads.specs.Heads.{read_count}
-use Rattle.read_items.specs.Laws.Context.{was_part, part_inside, no_part}
-use Rattle.read_heads.specs.Laws.Heads.{head_record, head_stop, head_count_stop, items_first, items_one, item_record_name, item_record_name_stop}
-use Rattle.read_items.specs.Laws.Reads.{was_read, was_refused}
+-- `read_record_head` meets its contract: name and count are read, or they are not.
+use Rattle.refusal.specs.Laws.Errors.{same_error}
+use Rattle.read_heads.specs.Laws.Heads.{head_record, no_record}
 use Rattle.read_heads.proofs.read_record_head.Goals as goal
 
-pub returns-in-Read : goal.returns-in-Read
-returns-in-Read c =
-    let part = was_part c.in-Part.is c.read_pool_index.ensures in
-    let inside = part_inside c.in-Part.is c.read_pool_index.ensures in
-    λ names. record { out = head_record _ _ (part names) inside (was_read c.in-Read.is c.read_uvarint.ensures) }
+pub returns-in_err-name : goal.returns-in_err-name
+returns-in_err-name c = λ names. rw (same_error c.from_residual.result _ c.from_residual.ensures.1) (no_record c.in_err-name.ensures)
 
-pub returns-in-Refused-read_uvarint : goal.returns-in-Refused-read_uvarint
-unfolding shape_of kinds_of read_count
-returns-in-Refused-read_uvarint c =
-    let part = was_part c.in-Part.is c.read_pool_index.ensures in
-    let count = was_refused c.in-Refused-read_uvarint.is c.read_uvarint.ensures in
-    λ names. record { out = λ cs. head_count_stop _ _ (items_one _ _ (item_record_name _ (part names cs))) count }
-
-pub returns-in-Refused : goal.returns-in-Refused
-unfolding shape_of kinds_of
-returns-in-Refused c =
-    let part = no_part c.in-Refused.is c.read_pool_index.ensures in
-    λ names. record { out = λ cs. head_stop _ _ (items_first _ _ _ (item_record_name_stop _ (part names cs))) }
+pub returns : goal.returns
+returns c = λ names. rw c.of_part.ensures (head_record c.in_ok-name.ensures)

@@ -14,9 +14,10 @@ use Rattle.payload.specs.Rows.{root_count, row_words}
 use Rattle.payload.specs.Shapes.{ItemKind, Shape, kinds_of, no_value, one_value, values, keys, pairs, shape, with_kids, with_chunk, with_fields, with_template}
 use Rattle.payload.specs.Trees.{Item, Node, Trees, cons, nil, node_of}
 use Rattle.row_layout.specs.Under.{rows_under}
-use Rattle.read_items.specs.Reads.{Reads, state_at, stopped}
+use Rattle.cursor.specs.Reads.{Reads, read, state_at, stopped}
 use Rattle.read_items.specs.Context.{context_of}
-use Rattle.read_heads.specs.Heads.{Heading, heading, head_words, read_count, read_head, read_kids_count, RowRead}
+use Rattle.read_heads.specs.Heads.{Heading, heading, head_words, read_count, read_head, read_kids_count, HeadOf, four_words}
+use Rattle.read_heads.specs.declared.Head.{Head}
 use Rattle.read_heads.specs.Following.{read_chunk_row, read_field_row, read_following}
 
 ---- steps grouped anew
@@ -124,31 +125,31 @@ module _ (e : Context) (r : Reader (Node Part)) where
 
 ---- a head that was read
 
-module _ {p names pool : List ℕ} {at a b c d count next : ℕ} {sh : Shape} (g : RowRead p names pool at sh a b c d count next) (t : ℕ) where
-  -- the row's words
-  pub row_words_lem : shape t ≡ sh → (n : ℕ) → n ≡ rows_under sh count → row_words t g.items n ≡ t ∷ a ∷ b ∷ c ∷ d ∷ []
-  unfolding row_words head_words
-  row_words_lem e n h = rw (e, h) (ap (λ (ws : List ℕ). t ∷ ws) g.words)
-
-  module _ (cs : Capacities) (r : Reader (Node Part)) (rows spans : ℕ) where
-    pub row_shape : ((kinds : List ItemKind) → sh ≡ with_template kinds → ⊥)
-        → read_shape (context_of cs p names pool) r t sh (state_at p at rows spans) ≡ after (context_of cs p names pool) r t sh (heading g.items count) (state_at p next rows spans)
-    unfolding and_then
-    row_shape h = shape_head (context_of cs p names pool) r t sh (state_at p at rows spans) h ∙ rw ((g.is cs).is rows spans)
+-- the row's words
+pub row_words_lem : {sh : Shape} {items : List (Item Part)} {h : Head} (g : HeadOf sh items h) (t : ℕ) → shape t ≡ sh → (n : ℕ) → n ≡ rows_under sh h.count
+    → row_words t items n ≡ t ∷ four_words h
+unfolding row_words head_words
+row_words_lem g t e n q = rw (e, q) (ap (λ (ws : List ℕ). t ∷ ws) g.words)
 
 module _ {p : List ℕ} {at : ℕ} (names pool : List ℕ) (cs : Capacities) (r : Reader (Node Part)) (t rows spans : ℕ) where
-  pub row_stop : (sh : Shape) {n q : ℕ} → ((kinds : List ItemKind) → sh ≡ with_template kinds → ⊥) → Reads p at (read_head (context_of cs p names pool) sh) (stopped n q)
-      → read_shape (context_of cs p names pool) r t sh (state_at p at rows spans) ≡ refused n q
-  unfolding and_then
-  row_stop sh h g = shape_head (context_of cs p names pool) r t sh (state_at p at rows spans) h ∙ rw (g.is rows spans)
+  module _ {sh : Shape} (plain : (kinds : List ItemKind) → sh ≡ with_template kinds → ⊥) where
+    pub row_shape : {items : List (Item Part)} {count next : ℕ} → Reads p at (read_head (context_of cs p names pool) sh) (read (heading items count) next)
+        → read_shape (context_of cs p names pool) r t sh (state_at p at rows spans) ≡ after (context_of cs p names pool) r t sh (heading items count) (state_at p next rows spans)
+    unfolding and_then
+    row_shape g = shape_head (context_of cs p names pool) r t sh (state_at p at rows spans) plain ∙ rw (g.is rows spans)
+
+    pub row_stop : {n q : ℕ} → Reads p at (read_head (context_of cs p names pool) sh) (stopped n q)
+        → read_shape (context_of cs p names pool) r t sh (state_at p at rows spans) ≡ refused n q
+    unfolding and_then
+    row_stop g = shape_head (context_of cs p names pool) r t sh (state_at p at rows spans) plain ∙ rw (g.is rows spans)
 
   -- a closure whose template was read from s on
   module _ (kinds : List ItemKind) (s : State) {f : Node Part} (is : r s ≡ ok f (state_at p at rows spans)) (seven : f.tag ≡ 7) where
-    pub template_row : {a b c d count next : ℕ} (g : RowRead p names pool at (with_template kinds) a b c d count next)
+    pub template_row : {items : List (Item Part)} {count next : ℕ} → Reads p at (read_head (context_of cs p names pool) (with_template kinds)) (read (heading items count) next)
         → read_shape (context_of cs p names pool) r t (with_template kinds) s
-        ≡ (read_following (context_of cs p names pool) r (with_template kinds) count >>= λ ts. pure (node_of t g.items (cons f ts))) (state_at p next rows spans)
+        ≡ (read_following (context_of cs p names pool) r (with_template kinds) count >>= λ ts. pure (node_of t items (cons f ts))) (state_at p next rows spans)
     unfolding and_then
-    template_row g = template_head (context_of cs p names pool) r t kinds s is seven ∙ rw ((g.is cs).is rows spans)
+    template_row g = template_head (context_of cs p names pool) r t kinds s is seven ∙ rw (g.is rows spans)
 
     pub template_row_stop : {n q : ℕ} → Reads p at (read_head (context_of cs p names pool) (with_template kinds)) (stopped n q)
         → read_shape (context_of cs p names pool) r t (with_template kinds) s ≡ refused n q

@@ -1,266 +1,334 @@
 -- The head of a row, from what its items and its count were read as.
-use Rattle.std.specs.Prelude.{true, false, List, [], ◌∷◌, ◌≡◌, ℕ, ◌+◌, ◌≤◌, drop, length, take}
-use Rattle.std.proofs.Math.Path.{refl, ap}
-use Rattle.std.proofs.Common.{arith}
+use Rattle.std.specs.Prelude.{true, false, List, [], ◌∷◌, ◌≡◌, refl, ℕ, ◌+◌, ◌≤◌, drop, length, take, Result, Ok, Err}
+use Rattle.std.specs.Borrow.{Bor}
+use Rattle.std.proofs.Common.{ap, arith, subst, ◌∙◌}
+use Rattle.refusal.specs.Number.{number as reason_number}
+use Rattle.refusal.specs.declared.Reason.TheVariants.{UnlistedNative}
+use Rattle.refusal.specs.declared.Refusal.{Refusal}
 use Rattle.payload.specs.Names.{is_listed}
 use Rattle.payload.specs.Numbers.{NumberKind, varint, read_number, u64, u16, handle}
-use Rattle.payload.specs.Reader.{Part}
+use Rattle.payload.specs.Reader as reader
+use Rattle.payload.specs.Reader.{Part, Reader, State, ◌>>=◌, and_then, ok, pure, refused}
 use Rattle.payload.specs.Reading.{Context, read_item, read_items, read_pool_index}
 use Rattle.payload.specs.declared.Capacities.{Capacities}
+use Rattle.payload.specs.declared.Extent.{Extent}
 use Rattle.payload.specs.Rows.{items_words, item_words, part_words, items_spans, count_words, kids_count_words, kind_width, kinds_width, unused_words}
 use Rattle.payload.specs.Shapes.{ItemKind, Kids, Shape, kinds_of, no_value, one_value, values, keys, pairs, with_kids}
 use Rattle.payload.specs.Trees.{Item, number, string, native_name, record_name}
 use Rattle.row_layout.specs.Under.{count_in, rows_under}
-use Rattle.read_items.specs.Reads.{Reads, read, stopped, number_answer}
-use Rattle.read_items.specs.Context.{part_of, context_of, ReadsPart}
-use Rattle.read_heads.specs.Class.{shape_of}
-use Rattle.read_heads.specs.Heads.{heading, read_head, read_count, read_kids_count, head_words, RowRead, ReadsHead, number_head, count_head, part_head}
-use Rattle.read_items.specs.Laws.Reads.{reads_pure, reads_then, reads_stop, reads_here, reads_must, reads_must_not}
+use Rattle.cursor.specs.Advances.{Advances, answer_by}
+use Rattle.cursor.specs.Laws.Advances.{by_law, then_reads, stop_reads, here_reads, must_reads, must_not_reads, pure_reads}
+use Rattle.cursor.specs.Reads.{Answer, Reads, part_of, read, stopped}
+use Rattle.cursor.specs.declared.Cursor.{Cursor}
+use Rattle.read_items.specs.Context.{context_of, part_in, ReadsIndex, ReadsPart}
 use Rattle.read_items.specs.Laws.Context.{length_part}
-use Rattle.read_items.specs.declared.Number.{Number}
-use Rattle.read_items.specs.declared.Number.TheVariants as numbers
-use Rattle.read_items.specs.declared.PartAt.{PartAt}
-use Rattle.read_items.specs.declared.PartAt.TheVariants as parts
-use Rattle.read_heads.specs.declared.Head.{Head}
-use Rattle.read_heads.specs.declared.Head.TheVariants as heads
+use Rattle.read_heads.specs.Class.{shape_of}
+use Rattle.read_heads.specs.Heads.{heading, read_head, read_count, read_kids_count, read_named, head_words, ReadsHead, ReadsNamed, count_head, part_head, two_words}
 use Rattle.read_heads.specs.declared.Class.TheVariants.{Native, Function, Record, Tag, Closure, Handle}
+
+---- reading a name leaves the payload
+
+none : Capacities
+none = record { rows = 0; spans = 0; strings = 0; starts = 0 }
+
+module _ {c c' : Cursor} {pool : List ℕ} where
+  pub index_keeps_payload : {r : Result ℕ Refusal} → ReadsIndex c c' pool r → c'.payload ≡ c.payload
+  index_keeps_payload g = (g.is [] none).payload
+
+  pub payload_kept : {r : Result Extent Refusal} → ReadsPart c c' pool r → c'.payload ≡ c.payload
+  payload_kept g = (g.is [] none).payload
 
 ---- items
 
-module _ {p : List ℕ} {at : ℕ} (e : Context) where
-  pub item_number : (k : NumberKind) {w next : ℕ} → Reads p at (read_number k) (read w next) → Reads p at (read_item e (ItemKind.number k)) (read (number k w) next)
+module _ (e : Context) {c c' : Cursor} where
+  pub item_number : (k : NumberKind) {w : ℕ} → Advances c c' (read_number k) (read w c'.at) → Advances c c' (read_item e (ItemKind.number k)) (read (number k w) c'.at)
   unfolding read_item
-  item_number k g = reads_then _ g (reads_pure _ g.inside)
+  item_number k g = then_reads _ g (pure_reads _)
 
-  pub item_number_stop : (k : NumberKind) {n q : ℕ} → Reads p at (read_number k) (stopped n q) → Reads p at (read_item e (ItemKind.number k)) (stopped n q)
+  pub item_number_stop : (k : NumberKind) {n q : ℕ} → Advances c c' (read_number k) (stopped n q) → Advances c c' (read_item e (ItemKind.number k)) (stopped n q)
   unfolding read_item
-  item_number_stop k g = reads_stop _ g
+  item_number_stop k g = stop_reads _ g
 
-  module _ {b : Part} {next : ℕ} (g : Reads p at (read_pool_index e) (read b next)) where
-    pub item_string : Reads p at (read_item e ItemKind.string) (read (string b) next)
+  module _ {b : Part} (g : Advances c c' (read_pool_index e) (read b c'.at)) where
+    pub item_string : Advances c c' (read_item e ItemKind.string) (read (string b) c'.at)
     unfolding read_item
-    item_string = reads_then _ g (reads_pure _ g.inside)
+    item_string = then_reads _ g (pure_reads _)
 
-    pub item_record_name : Reads p at (read_item e ItemKind.record_name) (read (record_name b) next)
+    pub item_record_name : Advances c c' (read_item e ItemKind.record_name) (read (record_name b) c'.at)
     unfolding read_item
-    item_record_name = reads_then _ g (reads_pure _ g.inside)
+    item_record_name = then_reads _ g (pure_reads _)
 
-    pub item_native : e.listed b.bytes ≡ true → Reads p at (read_item e ItemKind.native_name) (read (native_name b) next)
+    pub item_native : e.listed b.bytes ≡ true → Advances c c' (read_item e ItemKind.native_name) (read (native_name b) c'.at)
     unfolding read_item
-    item_native l = reads_here _ (reads_then _ g (reads_must _ _ l (reads_pure _ g.inside)))
+    item_native l = here_reads _ (then_reads _ g (must_reads _ _ l (pure_reads _)))
 
-    pub item_native_not : e.listed b.bytes ≡ false → Reads p at (read_item e ItemKind.native_name) (stopped 14 at)
+    pub item_native_not : e.listed b.bytes ≡ false → Advances c c' (read_item e ItemKind.native_name) (stopped 14 c.at)
     unfolding read_item
-    item_native_not l = reads_here _ (reads_then _ g (reads_must_not _ l))
+    item_native_not l = here_reads _ (then_reads _ g (must_not_reads _ l refl))
 
-  module _ {n q : ℕ} (g : Reads p at (read_pool_index e) (stopped n q)) where
-    pub item_string_stop : Reads p at (read_item e ItemKind.string) (stopped n q)
+  module _ {n q : ℕ} (g : Advances c c' (read_pool_index e) (stopped n q)) where
+    pub item_string_stop : Advances c c' (read_item e ItemKind.string) (stopped n q)
     unfolding read_item
-    item_string_stop = reads_stop _ g
+    item_string_stop = stop_reads _ g
 
-    pub item_record_name_stop : Reads p at (read_item e ItemKind.record_name) (stopped n q)
+    pub item_record_name_stop : Advances c c' (read_item e ItemKind.record_name) (stopped n q)
     unfolding read_item
-    item_record_name_stop = reads_stop _ g
+    item_record_name_stop = stop_reads _ g
 
-    pub item_native_stop : Reads p at (read_item e ItemKind.native_name) (stopped n q)
+    pub item_native_stop : Advances c c' (read_item e ItemKind.native_name) (stopped n q)
     unfolding read_item
-    item_native_stop = reads_here _ (reads_stop _ g)
-
-  pub items_none : at ≤ length p → Reads p at (read_items e []) (read [] at)
-  unfolding read_items
-  items_none h = reads_pure _ h
-
-  module _ (k : ItemKind) (kinds : List ItemKind) where
-    pub items_more : {i : Item Part} {mid : ℕ} {is : List (Item Part)} {next : ℕ} → Reads p at (read_item e k) (read i mid)
-        → Reads p mid (read_items e kinds) (read is next) → Reads p at (read_items e (k ∷ kinds)) (read (i ∷ is) next)
-    unfolding read_items
-    items_more g h = reads_then _ g (reads_then _ h (reads_pure _ h.inside))
-
-    pub items_first : {n q : ℕ} → Reads p at (read_item e k) (stopped n q) → Reads p at (read_items e (k ∷ kinds)) (stopped n q)
-    unfolding read_items
-    items_first g = reads_stop _ g
-
-    pub items_later : {i : Item Part} {mid n q : ℕ} → Reads p at (read_item e k) (read i mid) → Reads p mid (read_items e kinds) (stopped n q)
-        → Reads p at (read_items e (k ∷ kinds)) (stopped n q)
-    unfolding read_items
-    items_later g h = reads_then _ g (reads_stop _ h)
+    item_native_stop = here_reads _ (stop_reads _ g)
 
   module _ (k : ItemKind) where
-    pub items_one : {i : Item Part} {next : ℕ} → Reads p at (read_item e k) (read i next) → Reads p at (read_items e (k ∷ [])) (read (i ∷ []) next)
+    pub items_one : {i : Item Part} → Advances c c' (read_item e k) (read i c'.at) → Advances c c' (read_items e (k ∷ [])) (read (i ∷ []) c'.at)
     unfolding read_items
-    items_one g = reads_then _ g (reads_then _ (reads_pure _ g.inside) (reads_pure _ g.inside))
+    items_one g = then_reads _ g (then_reads _ (pure_reads _) (pure_reads _))
 
-  ---- a head
+    module _ (kinds : List ItemKind) where
+      pub items_first : {n q : ℕ} → Advances c c' (read_item e k) (stopped n q) → Advances c c' (read_items e (k ∷ kinds)) (stopped n q)
+      unfolding read_items
+      items_first g = stop_reads _ g
 
-  module _ (sh : Shape) where
-    pub head_read : {is : List (Item Part)} {mid n next : ℕ} → Reads p at (read_items e (kinds_of sh)) (read is mid) → Reads p mid (read_count sh) (read n next)
-        → Reads p at (read_head e sh) (read (heading is n) next)
-    unfolding read_head
-    head_read g h = reads_then _ g (reads_then _ h (reads_pure _ h.inside))
+module _ (e : Context) {c : Cursor} where
+  pub items_none : Advances c c (read_items e []) (read [] c.at)
+  unfolding read_items
+  items_none = pure_reads _
 
-    pub head_stop : {n q : ℕ} → Reads p at (read_items e (kinds_of sh)) (stopped n q) → Reads p at (read_head e sh) (stopped n q)
-    unfolding read_head
-    head_stop g = reads_stop _ g
+  module _ {m c' : Cursor} where
+    module _ (k : ItemKind) (kinds : List ItemKind) {i : Item Part} (g : Advances c m (read_item e k) (read i m.at)) where
+      pub items_more : {is : List (Item Part)} → Advances m c' (read_items e kinds) (read is c'.at) → Advances c c' (read_items e (k ∷ kinds)) (read (i ∷ is) c'.at)
+      unfolding read_items
+      items_more h = then_reads _ g (then_reads _ h (pure_reads _))
 
-    pub head_count_stop : {is : List (Item Part)} {mid n q : ℕ} → Reads p at (read_items e (kinds_of sh)) (read is mid) → Reads p mid (read_count sh) (stopped n q)
-        → Reads p at (read_head e sh) (stopped n q)
-    unfolding read_head
-    head_count_stop g h = reads_then _ g (reads_stop _ h)
+      pub items_later : {n q : ℕ} → Advances m c' (read_items e kinds) (stopped n q) → Advances c c' (read_items e (k ∷ kinds)) (stopped n q)
+      unfolding read_items
+      items_later h = then_reads _ g (stop_reads _ h)
+
+    ---- a head
+
+    module _ (sh : Shape) where
+      pub head_read : {is : List (Item Part)} {n : ℕ} → Advances c m (read_items e (kinds_of sh)) (read is m.at) → Advances m c' (read_count sh) (read n c'.at)
+          → Advances c c' (read_head e sh) (read (heading is n) c'.at)
+      unfolding read_head
+      head_read g h = then_reads _ g (then_reads _ h (pure_reads _))
+
+      pub head_count_stop : {is : List (Item Part)} {n q : ℕ} → Advances c m (read_items e (kinds_of sh)) (read is m.at) → Advances m c' (read_count sh) (stopped n q)
+          → Advances c c' (read_head e sh) (stopped n q)
+      unfolding read_head
+      head_count_stop g h = then_reads _ g (stop_reads _ h)
+
+  pub head_stop : {c' : Cursor} (sh : Shape) {n q : ℕ} → Advances c c' (read_items e (kinds_of sh)) (stopped n q) → Advances c c' (read_head e sh) (stopped n q)
+  unfolding read_head
+  head_stop sh g = stop_reads _ g
+
+---- a name and a number, as an item and a count, or as two items
+
+same_reader : {A : Type 0} {p : List ℕ} {at : ℕ} {r r' : Reader A} {x : Answer A} → ((s : State) → r' s ≡ r s) → Reads p at r x → Reads p at r' x
+same_reader q g = record { is = λ rows spans. q _ ∙ g.is rows spans; inside = g.inside }
+
+module _ (e : Context) (s : State) where
+  -- the three ways in which a name and a number are read
+  each_named : {P : Type 0} → ((k q : ℕ) → read_pool_index e s ≡ refused k q → P)
+      → ((b : Part) (z : State) (k q : ℕ) → read_pool_index e s ≡ ok b z → varint z ≡ refused k q → P)
+      → ((b : Part) (z : State) (n : ℕ) (z' : State) → read_pool_index e s ≡ ok b z → varint z ≡ ok n z' → P) → P
+  each_named {P} no_name no_number both = name (read_pool_index e s) refl
+    where
+      number_of : (b : Part) (z : State) → read_pool_index e s ≡ ok b z → (v : reader.Result ℕ) → varint z ≡ v → P
+      number_of b z i (ok n z') j = both b z n z' i j
+      number_of b z i (refused k q) j = no_number b z k q i j
+
+      name : (v : reader.Result Part) → read_pool_index e s ≡ v → P
+      name (ok b z) i = number_of b z i (varint z) refl
+      name (refused k q) i = no_name k q i
+
+  named_function : read_head e (shape_of Function) s ≡ (read_named e >>= λ x. pure (heading (string x.0 ∷ number u64 x.1 ∷ []) 1)) s
+  unfolding read_head read_items read_item read_number read_count read_named kinds_of shape_of ◌>>=◌ and_then pure
+  named_function = each_named (λ k q i. rw i) (λ b z k q i j. rw (i, j)) (λ b z n z' i j. rw (i, j))
+
+  named_record : read_head e (shape_of Record) s ≡ (read_named e >>= λ x. pure (heading (record_name x.0 ∷ []) x.1)) s
+  unfolding read_head read_items read_item read_count read_named kinds_of shape_of ◌>>=◌ and_then pure
+  named_record = each_named (λ k q i. rw i) (λ b z k q i j. rw (i, j)) (λ b z n z' i j. rw (i, j))
 
 ---- heads by class
 
-module _ {p names pool : List ℕ} {at : ℕ} where
-  module _ (inside : at ≤ length p) where
-    pub head_empty : RowRead p names pool at (with_kids [] no_value) 0 0 0 0 0 at
-    unfolding head_words items_words count_words kids_count_words kinds_width unused_words kinds_of count_in rows_under items_spans read_count read_kids_count
-    head_empty = record { items = []; is = λ cs. head_read _ _ (items_none _ inside) (reads_pure 0 inside); words = refl; told = refl; no_spans = refl }
+-- rows of this shape have no item, and count what follows them
+pub record Counts (sh : Shape) : Type 0 where
+  pub no_item : kinds_of sh ≡ []
+  pub counted : read_count sh ≡ varint
+  pub words : (n : ℕ) → head_words sh [] n ≡ n ∷ 0 ∷ 0 ∷ 0 ∷ []
+  pub told : (n : ℕ) → count_in sh (n ∷ 0 ∷ 0 ∷ 0 ∷ []) ≡ n
 
-    pub head_one_value : RowRead p names pool at (with_kids [] one_value) 0 0 0 0 1 at
-    unfolding head_words items_words count_words kids_count_words kinds_width unused_words kinds_of count_in rows_under items_spans read_count read_kids_count
-    head_one_value = record { items = []; is = λ cs. head_read _ _ (items_none _ inside) (reads_pure 1 inside); words = refl; told = refl; no_spans = refl }
+counts_kids : (kids : Kids) → read_kids_count kids ≡ varint → ((n : ℕ) → head_words (with_kids [] kids) [] n ≡ n ∷ 0 ∷ 0 ∷ 0 ∷ [])
+    → ((n : ℕ) → count_in (with_kids [] kids) (n ∷ 0 ∷ 0 ∷ 0 ∷ []) ≡ n) → Counts (with_kids [] kids)
+unfolding kinds_of read_count
+counts_kids kids e w t = record { no_item = refl; counted = e; words = w; told = t }
 
-  pub head_number : (k : NumberKind) (r : Number) → Reads p at (read_number k) (number_answer r)
-      → ReadsHead p names pool at (with_kids (ItemKind.number k ∷ []) no_value) (number_head r)
+pub counts_values : Counts (with_kids [] values)
+unfolding head_words items_words count_words kids_count_words kinds_width unused_words kinds_of count_in rows_under read_kids_count
+counts_values = counts_kids values refl (λ n. refl) (λ n. refl)
+
+pub counts_keys : Counts (with_kids [] keys)
+unfolding head_words items_words count_words kids_count_words kinds_width unused_words kinds_of count_in rows_under read_kids_count
+counts_keys = counts_kids keys refl (λ n. refl) (λ n. refl)
+
+pub counts_pairs : Counts (with_kids [] pairs)
+unfolding head_words items_words count_words kids_count_words kinds_width unused_words kinds_of count_in rows_under read_kids_count
+counts_pairs = counts_kids pairs refl (λ n. ap (λ (k : ℕ). k ∷ 0 ∷ 0 ∷ 0 ∷ []) (omega arith)) (λ n. refl)
+
+module _ {names pool : List ℕ} {c : Cursor} where
+  -- no item, and nothing or one value that follows
+  pub head_empty : ReadsHead c c names pool (with_kids [] no_value) (Ok (two_words 0 0))
+  unfolding head_words items_words count_words kids_count_words kinds_width unused_words kinds_of count_in rows_under items_spans read_count read_kids_count
+  head_empty = record { items = []; is = λ cs. head_read _ _ (items_none _) (pure_reads 0); head = record { words = refl; told = refl; no_spans = refl } }
+
+  pub head_one_value : ReadsHead c c names pool (with_kids [] one_value) (Ok (record { a = 0; b = 0; c = 0; d = 0; count = 1 }))
+  unfolding head_words items_words count_words kids_count_words kinds_width unused_words kinds_of count_in rows_under items_spans read_count read_kids_count
+  head_one_value = record { items = []; is = λ cs. head_read _ _ (items_none _) (pure_reads 1); head = record { words = refl; told = refl; no_spans = refl } }
+
+module _ {names pool : List ℕ} {c c' : Cursor} where
+  module _ {e : Refusal} where
+    -- no head is read
+    pub no_head : {sh : Shape} → ((cs : Capacities) → Advances c c' (read_head (context_of cs c.payload.now names pool) sh) (stopped (reason_number e.reason) e.place))
+        → ReadsHead c c' names pool sh (Err e)
+    no_head g = record { items = []; is = g; head = tt }
+
+    -- a number that stands first is not read
+    pub no_number : {sh : Shape} (k : NumberKind) {kinds : List ItemKind} → kinds_of sh ≡ ItemKind.number k ∷ kinds
+        → Advances c c' (read_number k) (stopped (reason_number e.reason) e.place) → ReadsHead c c' names pool sh (Err e)
+    no_number k q g = no_head (λ cs. head_stop _ _ (rw q (items_first _ _ _ (item_number_stop _ k g))))
+
+    -- a string that stands first is not read
+    pub no_string : {sh : Shape} {kinds : List ItemKind} → kinds_of sh ≡ ItemKind.string ∷ kinds → ReadsPart c c' pool (Err e) → ReadsHead c c' names pool sh (Err e)
+    no_string q g = no_head (λ cs. head_stop _ _ (rw q (items_first _ _ _ (item_string_stop _ (g.is names cs)))))
+
+  -- a number alone
+  pub head_number : (k : NumberKind) {w : ℕ} → Advances c c' (read_number k) (read w c'.at) → ReadsHead c c' names pool (with_kids (ItemKind.number k ∷ []) no_value) (Ok (two_words w 0))
   unfolding head_words items_words item_words count_words kids_count_words kind_width kinds_width unused_words kinds_of count_in rows_under items_spans read_count read_kids_count
-  head_number k (numbers.Read w next) g = record {
-    out = record {
-      items = number k w ∷ [];
-      is = λ cs. head_read _ _ (items_one _ _ (item_number _ k g)) (reads_pure 0 g.inside);
-      words = refl;
-      told = refl;
-      no_spans = refl;
-    };
+  head_number k {w} g = record {
+    items = number k w ∷ [];
+    is = λ cs. head_read _ _ (items_one _ _ (item_number _ k g)) (pure_reads 0);
+    head = record { words = refl; told = refl; no_spans = refl };
   }
-  head_number k (numbers.Refused n q) g = record { out = λ cs. head_stop _ _ (items_first _ _ _ (item_number_stop _ k g)) }
 
-  -- a string, and nothing or one value after it
-  pub head_string : (r : PartAt) → ReadsPart p pool at r → ReadsHead p names pool at (with_kids (ItemKind.string ∷ []) no_value) (part_head 0 r)
-  unfolding head_words items_words item_words part_words count_words kids_count_words kind_width kinds_width unused_words kinds_of count_in rows_under items_spans read_count read_kids_count
-  head_string (parts.Part o n next) g = record {
-    out = record {
-      items = string (part_of p o n) ∷ [];
-      is = λ cs. head_read _ _ (items_one _ _ (item_string _ (g.is names cs))) (reads_pure 0 (g.is names cs).inside);
-      words = rw (length_part p o n g.inside);
-      told = refl;
-      no_spans = refl;
-    };
-  }
-  head_string (parts.Refused n q) g = record { out = λ cs. head_stop _ _ (items_first _ _ _ (item_string_stop _ (g.is names cs))) }
+  -- a string, and nothing or one value that follows
+  module _ {x : Extent} (g : ReadsPart c c' pool (Ok x)) where
+    pub head_string : ReadsHead c c' names pool (with_kids (ItemKind.string ∷ []) no_value) (Ok (part_head x 0))
+    unfolding head_words items_words item_words part_words count_words kids_count_words kind_width kinds_width unused_words kinds_of count_in rows_under items_spans read_count read_kids_count
+    head_string = record {
+      items = string (part_in c.payload.now x) ∷ [];
+      is = λ cs. head_read _ _ (items_one _ _ (item_string _ (g.is names cs))) (pure_reads 0);
+      head = record { words = rw (length_part c.payload.now x.offset x.length g.inside); told = refl; no_spans = refl };
+    }
 
-  pub head_field : (r : PartAt) → ReadsPart p pool at r → ReadsHead p names pool at (with_kids (ItemKind.string ∷ []) one_value) (part_head 1 r)
-  unfolding head_words items_words item_words part_words count_words kids_count_words kind_width kinds_width unused_words kinds_of count_in rows_under items_spans read_count read_kids_count
-  head_field (parts.Part o n next) g = record {
-    out = record {
-      items = string (part_of p o n) ∷ [];
-      is = λ cs. head_read _ _ (items_one _ _ (item_string _ (g.is names cs))) (reads_pure 1 (g.is names cs).inside);
-      words = rw (length_part p o n g.inside);
-      told = refl;
-      no_spans = refl;
-    };
-  }
-  head_field (parts.Refused n q) g = record { out = λ cs. head_stop _ _ (items_first _ _ _ (item_string_stop _ (g.is names cs))) }
+    pub head_field : ReadsHead c c' names pool (with_kids (ItemKind.string ∷ []) one_value) (Ok (part_head x 1))
+    unfolding head_words items_words item_words part_words count_words kids_count_words kind_width kinds_width unused_words kinds_of count_in rows_under items_spans read_count read_kids_count
+    head_field = record {
+      items = string (part_in c.payload.now x) ∷ [];
+      is = λ cs. head_read _ _ (items_one _ _ (item_string _ (g.is names cs))) (pure_reads 1);
+      head = record { words = rw (length_part c.payload.now x.offset x.length g.inside); told = refl; no_spans = refl };
+    }
 
-  -- a count alone
-  module _ (kids : Kids) (counted : read_kids_count kids ≡ varint) (words : (n : ℕ) → head_words (with_kids [] kids) [] n ≡ n ∷ 0 ∷ 0 ∷ 0 ∷ [])
-      (told : (n : ℕ) → count_in (with_kids [] kids) (n ∷ 0 ∷ 0 ∷ 0 ∷ []) ≡ n) (inside : at ≤ length p) where
-    head_count : (r : Number) → Reads p at varint (number_answer r) → ReadsHead p names pool at (with_kids [] kids) (count_head r)
-    unfolding read_count kinds_of items_spans
-    head_count (numbers.Read n next) g = record { out = record { items = []; is = λ cs. head_read _ _ (items_none _ inside) (rw counted g); words = words n; told = told n; no_spans = refl } }
-    head_count (numbers.Refused n q) g = record { out = λ cs. head_count_stop _ _ (items_none _ inside) (rw counted g) }
+  ---- a count alone
 
-  module _ (inside : at ≤ length p) (r : Number) (g : Reads p at varint (number_answer r)) where
-    pub head_values : ReadsHead p names pool at (with_kids [] values) (count_head r)
-    unfolding head_words items_words count_words kids_count_words kinds_width unused_words kinds_of count_in rows_under read_kids_count
-    head_values = head_count values refl (λ n. refl) (λ n. refl) inside r g
+  module _ {sh : Shape} (k : Counts sh) where
+    pub head_count : {n : ℕ} → Advances c c' varint (read n c'.at) → ReadsHead c c' names pool sh (Ok (count_head n))
+    unfolding items_spans
+    head_count {n} g = record {
+      items = [];
+      is = λ cs. head_read _ {m = c} _ (rw k.no_item (items_none _)) (rw k.counted g);
+      head = record { words = k.words n; told = k.told n; no_spans = refl };
+    }
 
-    pub head_keys : ReadsHead p names pool at (with_kids [] keys) (count_head r)
-    unfolding head_words items_words count_words kids_count_words kinds_width unused_words kinds_of count_in rows_under read_kids_count
-    head_keys = head_count keys refl (λ n. refl) (λ n. refl) inside r g
+    pub no_count : {e : Refusal} → Advances c c' varint (stopped (reason_number e.reason) e.place) → ReadsHead c c' names pool sh (Err e)
+    no_count g = no_head (λ cs. head_count_stop _ {m = c} _ {is = []} (rw k.no_item (items_none _)) (rw k.counted g))
 
-    pub head_pairs : ReadsHead p names pool at (with_kids [] pairs) (count_head r)
-    unfolding head_words items_words count_words kids_count_words kinds_width unused_words kinds_of count_in rows_under read_kids_count
-    head_pairs = head_count pairs refl (λ n. ap (λ (k : ℕ). k ∷ 0 ∷ 0 ∷ 0 ∷ []) (omega arith)) (λ n. refl) inside r g
+  ---- a native's name
 
-  -- a string, and a number, a count or a string after it
-  module _ (o n : ℕ) {mid : ℕ} (g : (cs : Capacities) → Reads p at (read_pool_index (context_of cs p names pool)) (read (part_of p o n) mid)) (fits : o + n ≤ length p) where
-    pub head_native : is_listed names (take n (drop o p)) ≡ true → RowRead p names pool at (shape_of Native) o n 0 0 0 mid
+  module _ (o n : ℕ) (g : (cs : Capacities) → Advances c c' (read_pool_index (context_of cs c.payload.now names pool)) (read (part_of c.payload.now o n) c'.at)) where
+    pub head_native : o + n ≤ length c.payload.now → is_listed names (take n (drop o c.payload.now)) ≡ true → ReadsHead c c' names pool (shape_of Native) (Ok (two_words o n))
     unfolding shape_of context_of head_words items_words item_words part_words count_words kids_count_words kind_width kinds_width unused_words kinds_of count_in rows_under items_spans read_count read_kids_count
-    head_native l = record {
-      items = native_name (part_of p o n) ∷ [];
-      is = λ cs. head_read _ _ (items_one _ _ (item_native _ (g cs) l)) (reads_pure 0 (g cs).inside);
-      words = rw (length_part p o n fits);
-      told = refl;
-      no_spans = refl;
+    head_native fits l = record {
+      items = native_name (part_of c.payload.now o n) ∷ [];
+      is = λ cs. head_read _ _ (items_one _ _ (item_native _ (g cs) l)) (pure_reads 0);
+      head = record { words = rw (length_part c.payload.now o n fits); told = refl; no_spans = refl };
     }
 
-    pub head_native_not : is_listed names (take n (drop o p)) ≡ false → ReadsHead p names pool at (shape_of Native) (heads.Refused 14 at)
+    pub head_native_not : is_listed names (take n (drop o c.payload.now)) ≡ false
+        → ReadsHead c c' names pool (shape_of Native) (Err (record { reason = UnlistedNative; place = c.at }))
     unfolding shape_of context_of kinds_of
-    head_native_not l = record { out = λ cs. head_stop _ _ (items_first _ _ _ (item_native_not _ (g cs) l)) }
+    head_native_not l = no_head (λ cs. head_stop _ _ (items_first _ _ _ (item_native_not _ (g cs) l)))
 
-    pub head_function : {arity next : ℕ} → Reads p mid varint (read arity next) → RowRead p names pool at (shape_of Function) o n arity 0 1 next
-    unfolding shape_of head_words items_words item_words part_words count_words kind_width kinds_width unused_words kinds_of count_in rows_under items_spans read_count read_number
-    head_function {arity} h = record {
-      items = string (part_of p o n) ∷ number u64 arity ∷ [];
-      is = λ cs. head_read _ _ (items_more _ _ _ (item_string _ (g cs)) (items_one _ _ (item_number _ u64 h))) (reads_pure 1 h.inside);
-      words = rw (length_part p o n fits);
-      told = refl;
-      no_spans = refl;
+  ---- a name and a number
+
+  module _ {x : Extent} {n : ℕ} (g : ReadsNamed c c' pool (Ok (x, n))) where
+    pub head_function : ReadsHead c c' names pool (shape_of Function) (Ok (record { a = x.offset; b = x.length; c = n; d = 0; count = 1 }))
+    unfolding shape_of head_words items_words item_words part_words count_words kind_width kinds_width unused_words kinds_of count_in rows_under items_spans
+    head_function = record {
+      items = string (part_in c.payload.now x) ∷ number u64 n ∷ [];
+      is = λ cs. by_law (same_reader (named_function _)) (then_reads _ (g.is names cs) (pure_reads _));
+      head = record { words = rw (length_part c.payload.now x.offset x.length g.inside); told = refl; no_spans = refl };
     }
 
-    pub head_record : {count next : ℕ} → Reads p mid varint (read count next) → RowRead p names pool at (shape_of Record) o n count 0 count next
-    unfolding shape_of head_words items_words item_words part_words count_words kind_width kinds_width unused_words kinds_of count_in rows_under items_spans read_count
-    head_record h = record {
-      items = record_name (part_of p o n) ∷ [];
-      is = λ cs. head_read _ _ (items_one _ _ (item_record_name _ (g cs))) h;
-      words = rw (length_part p o n fits);
-      told = refl;
-      no_spans = refl;
+    pub head_record : ReadsHead c c' names pool (shape_of Record) (Ok (record { a = x.offset; b = x.length; c = n; d = 0; count = n }))
+    unfolding shape_of head_words items_words item_words part_words count_words kind_width kinds_width unused_words kinds_of count_in rows_under items_spans
+    head_record = record {
+      items = record_name (part_in c.payload.now x) ∷ [];
+      is = λ cs. by_law (same_reader (named_record _)) (then_reads _ (g.is names cs) (pure_reads _));
+      head = record { words = rw (length_part c.payload.now x.offset x.length g.inside); told = refl; no_spans = refl };
     }
 
-    pub head_tag : {o' n' next : ℕ} → ((cs : Capacities) → Reads p mid (read_pool_index (context_of cs p names pool)) (read (part_of p o' n') next)) → o' + n' ≤ length p
-        → RowRead p names pool at (shape_of Tag) o n o' n' 0 next
+  module _ {e : Refusal} (g : ReadsNamed c c' pool (Err e)) where
+    pub no_function : ReadsHead c c' names pool (shape_of Function) (Err e)
+    no_function = no_head (λ cs. by_law (same_reader (named_function _)) (stop_reads _ (g.is names cs)))
+
+    pub no_record : ReadsHead c c' names pool (shape_of Record) (Err e)
+    no_record = no_head (λ cs. by_law (same_reader (named_record _)) (stop_reads _ (g.is names cs)))
+
+---- heads of two items, or of an item and a count
+
+-- a part that is read where another ended
+part_after : {pool : List ℕ} {c m c' : Cursor} {r r' : Result Extent Refusal} → ReadsPart c m pool r → ReadsPart m c' pool r' → (names : List ℕ) (cs : Capacities)
+    → Advances m c' (read_pool_index (context_of cs c.payload.now names pool)) (answer_by (part_in c.payload.now) r' c'.at)
+part_after {pool} {m = m} {c' = c'} {r' = r'} g h names cs =
+    subst (λ (b : Bor (List ℕ)). Advances m c' (read_pool_index (context_of cs b.now names pool)) (answer_by (part_in b.now) r' c'.at)) (payload_kept g) (h.is names cs)
+
+module _ {names pool : List ℕ} {c m c' : Cursor} where
+  module _ {x : Extent} (g : ReadsPart c m pool (Ok x)) where
+    pub head_tag : {y : Extent} → ReadsPart m c' pool (Ok y) → ReadsHead c c' names pool (shape_of Tag) (Ok (record { a = x.offset; b = x.length; c = y.offset; d = y.length; count = 0 }))
     unfolding shape_of head_words items_words item_words part_words count_words kids_count_words kind_width kinds_width unused_words kinds_of count_in rows_under items_spans read_count read_kids_count
-    head_tag {o'} {n'} h fits' = record {
-      items = string (part_of p o n) ∷ string (part_of p o' n') ∷ [];
-      is = λ cs. head_read _ _ (items_more _ _ _ (item_string _ (g cs)) (items_one _ _ (item_string _ (h cs)))) (reads_pure 0 (h cs).inside);
-      words = rw (length_part p o n fits, length_part p o' n' fits');
-      told = refl;
-      no_spans = refl;
+    head_tag {y} h = record {
+      items = string (part_in c.payload.now x) ∷ string (part_in c.payload.now y) ∷ [];
+      is = λ cs. head_read _ _ (items_more _ _ _ (item_string _ (g.is names cs)) (items_one _ _ (item_string _ (part_after g h names cs)))) (pure_reads 0);
+      head = record { words = rw (length_part c.payload.now x.offset x.length g.inside, length_part c.payload.now y.offset y.length (rw (payload_kept g) at h.inside)); told = refl; no_spans = refl };
     }
 
-  -- a number, and a count or a number after it
-  pub head_closure : {start mid count next : ℕ} → Reads p at (read_number u16) (read start mid) → Reads p mid varint (read count next)
-      → RowRead p names pool at (shape_of Closure) start count 0 0 count next
-  unfolding shape_of head_words items_words item_words count_words kind_width kinds_width unused_words kinds_of count_in rows_under items_spans read_count
-  head_closure {start} g h = record {
-    items = number u16 start ∷ [];
-    is = λ cs. head_read _ _ (items_one _ _ (item_number _ u16 g)) h;
-    words = refl;
-    told = refl;
-    no_spans = refl;
-  }
+    pub no_variant : {e : Refusal} → ReadsPart m c' pool (Err e) → ReadsHead c c' names pool (shape_of Tag) (Err e)
+    unfolding shape_of kinds_of
+    no_variant h = no_head (λ cs. head_stop _ _ (items_later _ _ _ (item_string _ (g.is names cs)) (items_first _ _ _ (item_string_stop _ (part_after g h names cs)))))
 
-  pub head_handle : {kind mid id next : ℕ} → Reads p at (read_number handle) (read kind mid) → Reads p mid varint (read id next)
-      → RowRead p names pool at (shape_of Handle) kind id 0 0 0 next
-  unfolding shape_of head_words items_words item_words count_words kids_count_words kind_width kinds_width unused_words kinds_of count_in rows_under items_spans read_count read_kids_count read_number
-  head_handle {kind} {id = id} g h = record {
-    items = number handle kind ∷ number u64 id ∷ [];
-    is = λ cs. head_read _ _ (items_more _ _ _ (item_number _ handle g) (items_one _ _ (item_number _ u64 h))) (reads_pure 0 h.inside);
-    words = refl;
-    told = refl;
-    no_spans = refl;
-  }
+  module _ {start : ℕ} (g : Advances c m (read_number u16) (read start m.at)) where
+    pub head_closure : {count : ℕ} → Advances m c' varint (read count c'.at)
+        → ReadsHead c c' names pool (shape_of Closure) (Ok (record { a = start; b = count; c = 0; d = 0; count = count }))
+    unfolding shape_of head_words items_words item_words count_words kind_width kinds_width unused_words kinds_of count_in rows_under items_spans read_count
+    head_closure h = record {
+      items = number u16 start ∷ [];
+      is = λ cs. head_read _ _ (items_one _ _ (item_number _ u16 g)) h;
+      head = record { words = refl; told = refl; no_spans = refl };
+    }
 
----- the variant that a match found
+    pub no_captured : {e : Refusal} → Advances m c' varint (stopped (reason_number e.reason) e.place) → ReadsHead c c' names pool (shape_of Closure) (Err e)
+    unfolding shape_of kinds_of read_count
+    no_captured h = no_head (λ cs. head_count_stop _ _ (items_one _ _ (item_number _ u16 g)) h)
 
-module _ {p names pool : List ℕ} {at : ℕ} {sh : Shape} where
-  module _ {r : Head} where
-    pub was_row : {a b c d count next : ℕ} → r ≡ heads.Row a b c d count next → ReadsHead p names pool at sh r → RowRead p names pool at sh a b c d count next
-    was_row e g = (rw e at g).out
+  module _ {kind : ℕ} (g : Advances c m (read_number handle) (read kind m.at)) where
+    pub head_handle : {id : ℕ} → Advances m c' varint (read id c'.at) → ReadsHead c c' names pool (shape_of Handle) (Ok (two_words kind id))
+    unfolding shape_of head_words items_words item_words count_words kids_count_words kind_width kinds_width unused_words kinds_of count_in rows_under items_spans read_count read_kids_count read_number
+    head_handle {id} h = record {
+      items = number handle kind ∷ number u64 id ∷ [];
+      is = λ cs. head_read _ _ (items_more _ _ _ (item_number _ handle g) (items_one _ _ (item_number _ u64 h))) (pure_reads 0);
+      head = record { words = refl; told = refl; no_spans = refl };
+    }
 
-    pub no_row : {n q : ℕ} → r ≡ heads.Refused n q → ReadsHead p names pool at sh r → (cs : Capacities)
-        → Reads p at (read_head (context_of cs p names pool) sh) (stopped n q)
-    no_row e g = (rw e at g).out
-
-  pub row_inside : {a b c d count next : ℕ} → RowRead p names pool at sh a b c d count next → next ≤ length p
-  row_inside g = (g.is (record { rows = 0; spans = 0; strings = 0; starts = 0 })).inside
+    pub no_id : {e : Refusal} → Advances m c' varint (stopped (reason_number e.reason) e.place) → ReadsHead c c' names pool (shape_of Handle) (Err e)
+    unfolding shape_of kinds_of read_number
+    no_id h = no_head (λ cs. head_stop _ _ (items_later _ _ _ (item_number _ handle g) (items_first _ _ _ (item_number_stop _ u64 h))))

@@ -8,14 +8,11 @@ use Rattle.payload.specs.Reading.{read_pool_index}
 use Rattle.payload.specs.declared.Capacities.{Capacities}
 use Rattle.payload.specs.Rows.{part_words}
 use Rattle.payload.specs.Tables.{parts_words}
-use Rattle.read_items.specs.Reads.{read, stopped, Reads}
-use Rattle.read_items.specs.Context.{PartsFit, PoolFits, hint_base, plain_words, part_of, parts_of, context_of, entry_of, ReadsIndex, ReadsPart}
-use Rattle.read_items.specs.Laws.Reads.{reads_pure, reads_then, reads_stop, reads_here, reads_must, reads_must_not}
+use Rattle.cursor.specs.Reads.{read, stopped, Reads}
+use Rattle.read_items.specs.Context.{PartsFit, PoolFits, hint_base, plain_words, parts_of, context_of, entry_of}
+use Rattle.cursor.specs.Reads.{part_of}
+use Rattle.cursor.specs.Laws.Reads.{reads_pure, reads_then, reads_stop, reads_here, reads_must, reads_must_not}
 use Rattle.read_items.specs.Laws.Numbers.{reads_cut_to, reads_cut_to_stop}
-use Rattle.read_items.specs.declared.Number.{Number}
-use Rattle.read_items.specs.declared.Number.TheVariants as number
-use Rattle.read_items.specs.declared.PartAt.{PartAt}
-use Rattle.read_items.specs.declared.PartAt.TheVariants as part_at
 
 pub length_part : (p : List ℕ) (o n : ℕ) → o + n ≤ length p → length (take n (drop o p)) ≡ n
 length_part p o n h = simp (length-take, length-drop) (omega arith)
@@ -115,29 +112,3 @@ module _ {p : List ℕ} {at : ℕ} (pool names : List ℕ) (c : Capacities) wher
   pub reads_index_stop : {n q : ℕ} → Reads p at varint (stopped n q) → Reads p at (read_pool_index (context_of c p names pool)) (stopped n q)
   unfolding read_pool_index
   reads_index_stop g = reads_here _ (reads_stop _ (reads_cut_to_stop g (2 ^ 32)))
-
----- the variant that a match found
-
-module _ {p pool : List ℕ} {at : ℕ} {r : Number} where
-  pub was_index : {i next : ℕ} → r ≡ number.Read i next → ReadsIndex p pool at r → (names : List ℕ) (c : Capacities)
-      → Reads p at (read_pool_index (context_of c p names pool)) (read (entry_of p pool i) next)
-  was_index e g = (rw e at g).is
-
-  pub index_inside : {i next : ℕ} → r ≡ number.Read i next → ReadsIndex p pool at r → 2 * i + 1 < length pool
-  index_inside e g = (rw e at g).inside
-
-  pub no_index : {n q : ℕ} → r ≡ number.Refused n q → ReadsIndex p pool at r → (names : List ℕ) (c : Capacities)
-      → Reads p at (read_pool_index (context_of c p names pool)) (stopped n q)
-  no_index e g = (rw e at g).is
-
-module _ {p pool : List ℕ} {at : ℕ} {r : PartAt} where
-  pub was_part : {o n next : ℕ} → r ≡ part_at.Part o n next → ReadsPart p pool at r → (names : List ℕ) (c : Capacities)
-      → Reads p at (read_pool_index (context_of c p names pool)) (read (part_of p o n) next)
-  was_part e g = (rw e at g).is
-
-  pub part_inside : {o n next : ℕ} → r ≡ part_at.Part o n next → ReadsPart p pool at r → o + n ≤ length p
-  part_inside e g = (rw e at g).inside
-
-  pub no_part : {n q : ℕ} → r ≡ part_at.Refused n q → ReadsPart p pool at r → (names : List ℕ) (c : Capacities)
-      → Reads p at (read_pool_index (context_of c p names pool)) (stopped n q)
-  no_part e g = (rw e at g).is

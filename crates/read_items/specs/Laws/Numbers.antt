@@ -4,9 +4,9 @@ use Rattle.slices.specs.LittleEndian.{from_le_bytes}
 use Rattle.payload.specs.Choice.{when◌then◌else◌}
 use Rattle.payload.specs.Numbers.{varint, read_number, bool, cut_to, cut_tested, cut_to_signed, read_float}
 use Rattle.payload.specs.Reader.{byte}
-use Rattle.read_items.specs.Reads.{read, stopped, Reads}
+use Rattle.cursor.specs.Reads.{read, stopped, Reads}
 use Rattle.read_items.specs.Numbers.{kind_of, cut_word}
-use Rattle.read_items.specs.Laws.Reads.{reads_pure, reads_then, reads_stop, reads_here, reads_must, reads_must_not, reads_body, reads_body_end}
+use Rattle.cursor.specs.Laws.Reads.{reads_pure, reads_then, reads_stop, reads_here, reads_must, reads_must_not, reads_body, reads_body_end}
 use Rattle.read_items.specs.declared.Cut.{Cut}
 use Rattle.read_items.specs.declared.Cut.TheVariants.{U64, U32, U16, I64, I32, I16, I8}
 

@@ -1,20 +1,26 @@
 -- `fill_starts` meets its contract: the flag, and what stands after it.
-use native.Mathlib.Omega.{arith}
-use Rattle.read_items.specs.Laws.Reads.{was_read, was_refused}
-use Rattle.read_lines.proofs.Lines.{no_flag, bad_flag, without_lines, with_lines}
+use Rattle.std.proofs.Common.{arith, refl}
+use Rattle.std.proofs.lemmas.Bool.{lt-leb}
+use Rattle.payload.specs.Reading.{read_line_index}
+use Rattle.refusal.specs.Laws.Errors.{same_error}
+use Rattle.cursor.specs.Laws.Advances.{then_reads, stop_reads, here_reads, must_not_reads}
+use Rattle.read_lines.proofs.Flagged.{without_lines, with_lines}
 use Rattle.read_lines.proofs.fill_starts.Goals as goal
 
-pub returns-then-flag-gt1 : goal.returns-then-flag-gt1
-returns-then-flag-gt1 c =
-    record { outcome = bad_flag (was_read c.in-Read.is c.read_byte.ensures) (omega arith) }
+pub returns-in_err-byte : goal.returns-in_err-byte
+unfolding read_line_index
+returns-in_err-byte c = rw (same_error c.from_residual.result _ c.from_residual.ensures.1) (record {
+  outcome = record { reads = λ cs names h. here_reads _ (stop_reads _ c.in_err-byte.ensures) };
+})
 
-pub returns-then-flag-eq0 : goal.returns-then-flag-eq0
-returns-then-flag-eq0 c =
-    record { outcome = without_lines (was_read c.in-Read.is c.read_byte.ensures) c.if-flag-eq0.true }
+pub returns-in-0 : goal.returns-in-0
+returns-in-0 c = without_lines (rw c.in-0.is at c.in_ok-byte.ensures)
 
-pub returns-else-flag-eq0 : goal.returns-else-flag-eq0
-returns-else-flag-eq0 c =
-    with_lines (was_read c.in-Read.is c.read_byte.ensures) (omega arith) (omega arith) c.read_flagged.ensures
+pub returns-in-1 : goal.returns-in-1
+returns-in-1 c = with_lines (rw c.in-1.is at c.in_ok-byte.ensures) c.read_flagged.ensures
 
-pub returns-in-Refused : goal.returns-in-Refused
-returns-in-Refused c = record { outcome = no_flag (was_refused c.in-Refused.is c.read_byte.ensures) }
+pub returns-in_default : goal.returns-in_default
+unfolding read_line_index
+returns-in_default c = rw c.at.ensures (record {
+  outcome = record { reads = λ cs names h. here_reads _ (then_reads _ c.in_ok-byte.ensures (must_not_reads _ (lt-leb _ 1 (omega arith)) refl)) };
+})

@@ -1,34 +1,30 @@
 -- `read_flagged` meets its contract: the name, the count of the starts, the starts.
-use mathlib.Core.Path.{refl}
-use Rattle.read_items.specs.Laws.Reads.{was_read, was_refused}
-use Rattle.read_lines.proofs.Lines.{name_read, name_length_lem, name_refused, no_name, no_count, no_starts, flagged}
+use Rattle.payload.specs.Reading.{read_flagged}
+use Rattle.refusal.specs.Laws.Errors.{same_error}
+use Rattle.cursor.specs.Laws.Advances.{then_reads, stop_reads}
+use Rattle.read_items.specs.Context.{context_of}
+use Rattle.read_lines.proofs.Flagged.{flagged}
 use Rattle.read_lines.proofs.read_flagged.Goals as goal
 
-pub read_starts-requires : goal.read_starts-requires
-read_starts-requires c =
-    let pre = c.requires in
-    let f = was_read c.in-Read.is c.read_uvarint.ensures in (f.inside, pre.0)
+pub returns-in_err-name : goal.returns-in_err-name
+unfolding read_flagged
+returns-in_err-name c = rw (same_error c.from_residual.result _ c.from_residual.ensures.1) (record {
+  outcome = record { reads = λ cs names h. stop_reads _ (c.in_err-name.ensures.is names cs) };
+})
 
-pub returns-in-Starts : goal.returns-in-Starts
-returns-in-Starts c =
-    let name = name_read c.read_pool_index.ensures _ _ c.in-Part.is in
-    let count = was_read c.in-Read.is c.read_uvarint.ensures in
-    record {
-      outcome = flagged name count refl
-          (name_length_lem c.read_pool_index.ensures _ _ c.in-Part.is)
-          (rw c.in-Starts.is at c.read_starts.ensures).outcome;
-    }
+pub returns-in_err-count : goal.returns-in_err-count
+unfolding read_flagged
+returns-in_err-count c = rw (same_error c.from_residual-in_err-count.result _ c.from_residual-in_err-count.ensures.1) (record {
+  outcome = record { reads = λ cs names h. then_reads _ (c.in_ok-name.ensures.is names cs) (stop_reads _ c.in_err-count.ensures) };
+})
 
-pub returns-in-Refused-read_starts : goal.returns-in-Refused-read_starts
-returns-in-Refused-read_starts c =
-    let name = name_read c.read_pool_index.ensures _ _ c.in-Part.is in
-    let count = was_read c.in-Read.is c.read_uvarint.ensures in
-    record { outcome = no_starts name count (rw c.in-Refused-read_starts.is at c.read_starts.ensures).outcome }
+pub returns-in_err-read_starts : goal.returns-in_err-read_starts
+unfolding read_flagged context_of
+returns-in_err-read_starts c = rw (same_error c.from_residual-in_err-read_starts.result _ c.from_residual-in_err-read_starts.ensures.1) (record {
+  outcome = record {
+    reads = λ cs names h. then_reads _ (c.in_ok-name.ensures.is names cs) (then_reads _ c.in_ok-count.ensures (stop_reads _ (rw h c.in_err-read_starts.ensures.outcome)));
+  };
+})
 
-pub returns-in-Refused-read_uvarint : goal.returns-in-Refused-read_uvarint
-returns-in-Refused-read_uvarint c =
-    let name = name_read c.read_pool_index.ensures _ _ c.in-Part.is in
-    record { outcome = no_count name (was_refused c.in-Refused-read_uvarint.is c.read_uvarint.ensures) }
-
-pub returns-in-Refused : goal.returns-in-Refused
-returns-in-Refused c = record { outcome = no_name (name_refused c.read_pool_index.ensures c.in-Refused.is) }
+pub returns : goal.returns
+returns c = record { outcome = flagged c.in_ok-name.ensures c.in_ok-count.ensures c.in_ok-read_starts.ensures.outcome }

@@ -1,17 +1,13 @@
 -- `fill_pool` meets its contract: the count of the strings, then the strings.
-use Rattle.read_items.specs.Laws.Reads.{was_read, was_refused}
-use Rattle.read_pool.proofs.Strings.{no_count, pool_read}
+use Rattle.payload.specs.Reading.{read_pool}
+use Rattle.refusal.specs.Laws.Errors.{same_error}
+use Rattle.cursor.specs.Laws.Advances.{stop_reads}
+use Rattle.read_pool.proofs.Strings.{pool_read}
 use Rattle.read_pool.proofs.fill_pool.Goals as goal
 
-pub read_strings-requires : goal.read_strings-requires
-read_strings-requires c =
-    let pre = c.requires in
-    let g = was_read c.in-Read.is c.read_uvarint.ensures in (g.inside, pre)
+pub returns-in_err-count : goal.returns-in_err-count
+unfolding read_pool
+returns-in_err-count c = rw (same_error c.from_residual.result _ c.from_residual.ensures.1) (record { outcome = stop_reads _ c.in_err-count.ensures })
 
-pub returns-in-Read : goal.returns-in-Read
-returns-in-Read c =
-    let pre = c.requires in
-    pool_read _ (was_read c.in-Read.is c.read_uvarint.ensures) pre c.read_strings.ensures
-
-pub returns-in-Refused : goal.returns-in-Refused
-returns-in-Refused c = record { outcome = no_count _ (was_refused c.in-Refused.is c.read_uvarint.ensures) }
+pub returns : goal.returns
+returns c = pool_read c.in_ok-count.ensures c.requires c.read_strings.ensures

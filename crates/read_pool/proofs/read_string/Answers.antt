@@ -1,27 +1,37 @@
 -- `read_string` meets its contract: the length, the body, and whether the body is UTF-8.
-use Rattle.cursor.specs.Laws.Body.{was_short}
-use Rattle.cursor.specs.Laws.Body.{was_body as was-at}
-use Rattle.read_items.specs.Laws.Reads.{was_read, was_refused}
-use Rattle.read_pool.proofs.Strings.{reads_string, reads_no_text, reads_no_body, reads_no_length, part_utf8}
-use mathlib.Core.Path.{sym, ◌∙◌}
+use Rattle.std.specs.Prelude.{◌≡◌, refl, drop, take}
+use Rattle.std.proofs.Common.{sym, ap, ◌∙◌}
+use Rattle.payload.specs.Reading.{read_string}
+use Rattle.refusal.specs.Laws.Errors.{same_error}
+use Rattle.cursor.specs.Laws.Advances.{then_reads, stop_reads, here_reads, must_reads, must_not_reads, pure_reads}
 use Rattle.read_pool.proofs.read_string.Goals as goal
 
-pub returns-then-part_is_utf8 : goal.returns-then-part_is_utf8
-returns-then-part_is_utf8 c =
-    let g = was_read c.in-Read.is c.read_uvarint.ensures in
-    let b = was-at _ _ _ c.read_body.ensures c.in-At.is in
-    rw b.0 (reads_string g b.2 (sym (part_utf8 _ _ _ b.2) ∙ sym (rw b.0 at c.part_is_utf8.ensures) ∙ c.if-part_is_utf8.true))
+pub returns-in_err-length : goal.returns-in_err-length
+unfolding read_string
+returns-in_err-length c = rw (same_error c.from_residual.result _ c.from_residual.ensures.1) (record { is = stop_reads _ c.in_err-length.ensures; inside = tt })
 
-pub returns-else-part_is_utf8 : goal.returns-else-part_is_utf8
-returns-else-part_is_utf8 c =
-    let g = was_read c.in-Read.is c.read_uvarint.ensures in
-    let b = was-at _ _ _ c.read_body.ensures c.in-At.is in
-    rw b.0 (reads_no_text g b.2 (sym (part_utf8 _ _ _ b.2) ∙ sym (rw b.0 at c.part_is_utf8.ensures) ∙ c.if-part_is_utf8.false))
+pub returns-in_err-take : goal.returns-in_err-take
+unfolding read_string
+returns-in_err-take c = rw (same_error c.from_residual-in_err-take.result _ c.from_residual-in_err-take.ensures.1) (record {
+  is = then_reads _ c.in_ok-length.ensures (here_reads _ (stop_reads _ c.in_err-take.ensures.advances));
+  inside = tt;
+})
 
-pub returns-in-Short : goal.returns-in-Short
-returns-in-Short c =
-    let g = was_read c.in-Read.is c.read_uvarint.ensures in
-    let b = was_short _ _ _ c.read_body.ensures c.in-Short.is in rw b.0 (reads_no_body g b.1)
+pub returns-then-is_utf8 : goal.returns-then-is_utf8
+unfolding read_string
+returns-then-is_utf8 c =
+    let t = c.in_ok-take.ensures.taken in
+    let o = c.uvarint.new.self.at in
+    let n = c.in_ok-length.length in
+    let same : c.in_ok-take.field-0.now ≡ take n (drop o c.args.cursor.now.payload.now) = t.are ∙ ap (λ b. take n (drop o b.now)) c.in_ok-length.ensures.payload in
+    record {
+      is = rw (← same) (then_reads _ c.in_ok-length.ensures (here_reads _ (then_reads _ c.in_ok-take.ensures.advances (must_reads _ _ (sym c.is_utf8.ensures ∙ c.if-is_utf8.true) (pure_reads _)))));
+      inside = rw c.in_ok-length.ensures.payload at t.inside;
+    }
 
-pub returns-in-Refused : goal.returns-in-Refused
-returns-in-Refused c = reads_no_length (was_refused c.in-Refused.is c.read_uvarint.ensures)
+pub returns : goal.returns
+unfolding read_string
+returns c = rw c.at.ensures (record {
+  is = then_reads _ c.in_ok-length.ensures (here_reads _ (then_reads _ c.in_ok-take.ensures.advances (must_not_reads _ (sym c.is_utf8.ensures ∙ c.if-is_utf8.false) refl)));
+  inside = tt;
+})

@@ -1,18 +1,11 @@
--- What was read, from the variant that a match found.
-use Rattle.std.specs.Prelude.{List, ◌≡◌, ℕ, length}
-use Rattle.slices.specs.Zeros.{zeros}
-use Rattle.payload.specs.Reader.{start, refused}
+-- A pool that stands at a payload's begin.
+use Rattle.std.specs.Prelude.{List, ◌≡◌, ℕ}
+use Rattle.payload.specs.Reader.{Part, start}
 use Rattle.payload.specs.Reading.{read_pool}
-use Rattle.read_pool.specs.PoolRead.{Accepted, PoolRead}
-use Rattle.read_pool.specs.declared.PoolAt.{PoolAt}
-use Rattle.read_pool.specs.declared.PoolAt.TheVariants.{Pool, Refused}
+use Rattle.cursor.specs.Reads.{Answer, result_of}
+use Rattle.cursor.specs.Advances.{Advances}
+use Rattle.cursor.specs.declared.Cursor.{Cursor}
 
-module _ {p table table' : List ℕ} {most : ℕ} {r : PoolAt} (g : PoolRead p table table' most r) where
-  pub was_pool : {n next : ℕ} → r ≡ Pool n next → Accepted p table table' most n next
-  was_pool w = (rw w at g).outcome
-
-  pub no_pool : {n q : ℕ} → r ≡ Refused n q → read_pool most (start p) ≡ refused n q
-  no_pool w = (rw w at g).outcome
-
-  pub pool_cleared : {n q : ℕ} → r ≡ Refused n q → table' ≡ zeros (length table)
-  pool_cleared w = (rw w at g).cleared
+pub read_at_begin : {c c' : Cursor} (most : ℕ) {x : Answer (List Part)} → c.at ≡ 0 → Advances c c' (read_pool most) x
+    → read_pool most (start c.payload.now) ≡ result_of c.payload.now 0 0 x
+read_at_begin most e g = (rw e at g.reads).is 0 0

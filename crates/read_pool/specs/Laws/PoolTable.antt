@@ -8,7 +8,8 @@ use Rattle.payload.specs.Laws.Tables.{length_parts_words}
 use Rattle.payload.specs.Reader.{Part}
 use Rattle.payload.specs.Rows.{part_words}
 use Rattle.payload.specs.Tables.{parts_words}
-use Rattle.read_items.specs.Context.{part_of, parts_of, PartsFit}
+use Rattle.read_items.specs.Context.{parts_of, PartsFit}
+use Rattle.cursor.specs.Reads.{part_of}
 use Rattle.read_items.specs.Laws.Context.{length_part}
 
 pub parts_words_append : (a b : List Part) → parts_words (a ++ b) ≡ parts_words a ++ parts_words b

@@ -1,43 +1,31 @@
--- `read_outer` meets its contract: the outer chunk of the definition is a chunk row with 32 levels left, and a refusal clears both tables.
-use mathlib.Core.Path.{ap, ◌∙◌}
+-- `read_outer` meets its contract: the outer chunk, and zeros at a refusal.
+use Rattle.std.specs.Prelude.{Ok, Err, List, true, false, is_err, ◌≡◌, ℕ, length}
+use Rattle.std.proofs.Common.{ap, sym, ◌∙◌}
 use Rattle.slices.specs.Zeros.{zeros}
-use Rattle.slices.specs.Laws.Zeros.{zero_from_zero}
 use Rattle.payload.specs.Reading.{read_chunk}
-use Rattle.read_values.specs.Laws.Did.{no_of}
+use Rattle.read_values.specs.Did.{Does, Step, one_tree}
+use Rattle.read_values.specs.Outer.{OuterRead}
+use Rattle.read_values.specs.State.{start_at}
+use Rattle.read_values.specs.declared.sources.Source.{Source}
 use Rattle.read_values.proofs.read_outer.Goals as goal
 
--- src/lib.rt:48:9
--- src/lib.rt:40:11
-pub read_chunk-requires-clause-fit : goal.read_chunk-requires-clause-fit
-read_chunk-requires-clause-fit c = rw c.start.ensures c.requires.fit
+module _ {e : Source} {rows rows' spans spans' : List ℕ} {at : ℕ} where
+  cleared : (r : Step) → Does one_tree e rows rows' spans spans' (start_at at) r read_chunk → is_err r ≡ true
+      → {rows'' spans'' : List ℕ} → rows'' ≡ zeros (length rows) → spans'' ≡ zeros (length spans) → OuterRead e rows rows'' spans spans'' at r
+  cleared (Ok s) d h a b = cc
+  cleared (Err x) d h a b = record { did = record { out = d.out }; cleared = (a, b) }
 
--- src/lib.rt:48:9
--- src/lib.rt:40:11
-pub read_chunk-requires-clause-pool_fits : goal.read_chunk-requires-clause-pool_fits
-read_chunk-requires-clause-pool_fits c = c.requires.pool_fits
+  kept : (r : Step) → Does one_tree e rows rows' spans spans' (start_at at) r read_chunk → is_err r ≡ false → OuterRead e rows rows' spans spans' at r
+  kept (Ok s) d h = record { did = d; cleared = tt }
+  kept (Err x) d h = cc
 
--- src/lib.rt:50:20
--- src/lib.rt:51:23
--- src/lib.rt:52:13
--- src/lib.rt:53:13
--- src/lib.rt:27:1
--- src/lib.rt:27:1
--- src/lib.rt:27:1
-pub returns-in-Done : goal.returns-in-Done
+pub returns-then-is_err : goal.returns-then-is_err
 unfolding read_chunk
-returns-in-Done c =
-    record { did = rw (c.start.ensures, c.in-Done.is) at c.read_chunk.ensures; cleared = tt }
+returns-then-is_err c =
+    let r = c.read_chunk-outer in
+    cleared r.result (rw c.start.ensures at r.ensures) (sym c.if-is_err.ensures.value) (c.fill.ensures.after (λ y e. e) ∙ ap zeros r.auto.rows)
+    (c.fill-then-is_err.ensures.after (λ y e. e) ∙ ap zeros r.auto.spans)
 
--- src/lib.rt:27:1
--- src/lib.rt:27:1
--- src/lib.rt:27:1
-pub returns-in-Refused : goal.returns-in-Refused
+pub returns-else-is_err : goal.returns-else-is_err
 unfolding read_chunk
-returns-in-Refused c =
-    record {
-      did = record { out = no_of c.in-Refused.is (rw c.start.ensures at c.read_chunk.ensures) };
-      cleared = (
-        c.zero_u64_from.ensures ∙ zero_from_zero c.read_chunk.new.rows ∙ ap zeros c.read_chunk.auto.rows,
-        c.zero_u64_from-in-Refused.ensures ∙ zero_from_zero c.read_chunk.new.spans ∙ ap zeros c.read_chunk.auto.spans,
-      );
-    }
+returns-else-is_err c = let r = c.read_chunk-outer in kept r.result (rw c.start.ensures at r.ensures) (sym c.if-is_err.ensures.value)

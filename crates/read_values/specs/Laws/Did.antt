@@ -1,6 +1,8 @@
 -- Laws of `Did`: what a match on its answer tells, and how two parts follow each other.
 use mathlib.Core.List.{List, [], ◌∷◌, ◌++◌, append-nil}
-use Rattle.std.specs.Prelude.{◌≡◌, refl, ℕ, ◌+◌, ◌*◌}
+use Rattle.std.specs.Prelude.{◌≡◌, refl, ℕ, ◌+◌, ◌*◌, Ok, Err}
+use Rattle.refusal.specs.Number.{number}
+use Rattle.refusal.specs.declared.Refusal.{Refusal}
 use Rattle.std.proofs.Common.{sym, ◌∙◌, arith}
 use Rattle.std.proofs.Math.Path.{ap}
 use Rattle.std.proofs.Math.ListN.{length, length-append}
@@ -13,22 +15,20 @@ use Rattle.payload.specs.Spans.{Span}
 use Rattle.payload.specs.Tables.{span_words}
 use Rattle.payload.specs.Trees.{Item, Node, Trees, cons, node_of, single}
 use Rattle.key_test.specs.Told.{RowTold, Told}
-use Rattle.read_values.specs.Did.{View, many_trees, one_tree, Ran, Did, rows_in, spans_in}
+use Rattle.read_values.specs.Did.{View, Step, many_trees, one_tree, Ran, Did, rows_in, spans_in}
 use Rattle.read_values.specs.Entries.{joined}
 use Rattle.read_values.specs.Laws.Entries.{joined_rows, joined_spans, joined_told}
 use Rattle.read_values.specs.State.{state_of}
 use Rattle.payload.specs.declared.Capacities.{Capacities}
 use Rattle.read_values.specs.declared.State.{State}
-use Rattle.read_values.specs.declared.Step.{Step}
-use Rattle.read_values.specs.declared.Step.TheVariants.{Done, Refused}
 
 ---- the variant that a match found
 
 module _ {A : Type 0} {view : View A} {capacities : Capacities} {p a b a' b' : List ℕ} {i j : ℕ} {r : Step} {x : Result A} where
-  pub ran_of : {s : State} → r ≡ Done s → Did view capacities p a b a' b' i j r x → (t : A) × Ran view capacities p a b a' b' i j s t x
+  pub ran_of : {s : State} → r ≡ Ok s → Did view capacities p a b a' b' i j r x → (t : A) × Ran view capacities p a b a' b' i j s t x
   ran_of e d = (rw e at d).out
 
-  pub no_of : {n q : ℕ} → r ≡ Refused n q → Did view capacities p a b a' b' i j r x → x ≡ refused n q
+  pub no_of : {e : Refusal} → r ≡ Err e → Did view capacities p a b a' b' i j r x → x ≡ refused (number e.reason) e.place
   no_of e d = (rw e at d).out
 
 -- the same result by another reader
@@ -94,8 +94,8 @@ module _ {capacities : Capacities} {p : List ℕ} where
       ((ts : Trees Part) (z : reader.State) → x ≡ ok ts z → (row_words t is (root_count ts) ≡ row) × RowTold t is (root_count ts)) →
       Did many_trees capacities p b c b' c' (i + 1) l r x → Did one_tree capacities p a c a' c' i j r (and_then x (λ ts. pure (node_of t is ts)))
   unfolding and_then pure
-  did_node {r = Refused n q} t is row us w n5 w' z e h d = record { out = rw d.out }
-  did_node {a} {b} {c} {a'} {b'} {c'} {i} {j} {l} {r = Done s} {x} t is row us w n5 w' z e h d =
+  did_node {r = Err e'} t is row us w n5 w' z e h d = record { out = rw d.out }
+  did_node {a} {b} {c} {a'} {b'} {c'} {i} {j} {l} {r = Ok s} {x} t is row us w n5 w' z e h d =
       let ts = d.out.0 in let g = d.out.1 in
       let k = h ts (state_of p s) g.is in
       let ws : row_table (single (node_of t is ts)) ≡ row ++ row_table ts = own_rows t is ts ∙ ap (λ (m : List ℕ). m ++ row_table ts) k.0 in

@@ -1,9 +1,10 @@
 -- Laws of recorded numbers and tables: the number at an index, the zeros behind the last, one more number that is put into a table.
-use Rattle.std.specs.Prelude.{Bool, ◌&&◌, List, [], ◌∷◌, ◌++◌, ◌≡◌, refl, ℕ, zero, suc, ◌+◌, ◌-◌, ◌*◌, ◌^◌, ◌≤◌, ◌<◌, leb, eqb, get_or, set, take, drop}
-use Rattle.std.proofs.Math.Bool.{and_assoc, and-true}
-use Rattle.std.proofs.Common.{append-nil, ap, ◌∙◌, zero-add, suc-add, mul-zero, mul-suc, add-one, length-append, length-drop, length-set, length-take, drop-cons, drop-drop, length-take-le, take-suc}
+use Rattle.std.specs.Prelude.{Bool, true, ◌&&◌, List, [], ◌∷◌, ◌++◌, ◌≡◌, refl, ℕ, zero, suc, ◌+◌, ◌-◌, ◌*◌, ◌^◌, ◌≤◌, ◌<◌, leb, eqb, get_or, set, take, drop, min}
+use Rattle.std.proofs.Math.Bool.{and_assoc, and_comm, and-true}
+use Rattle.std.proofs.Common.{append-nil, ⊎_elim, eq-zero-or-pos, ap, ◌∙◌, zero-add, suc-add, mul-zero, mul-suc, add-one, length-append, length-drop, length-set, length-take, drop-cons, drop-drop, length-take-le, take-suc}
 use Rattle.std.proofs.Math.Path.{sym}
-use Rattle.std.proofs.Math.Nat.{pow-le-pow_right}
+use Rattle.std.proofs.Math.Nat.{pow-le-pow_right, min-eq_left, min-eq_right}
+use Rattle.std.proofs.lemmas.Bool.Decides.{nat_tests}
 use native.Mathlib.Omega.{arith}
 use Rattle.std.proofs.Math.ListN.{length, drop_of_length-le}
 use Rattle.std.proofs.lemmas.List.{length-replicate, get_or_at, set_at}
@@ -11,11 +12,12 @@ use Rattle.std.proofs.Math.Seq.{append_snoc, drop-nil, take_all, take-nil}
 use Rattle.slices.specs.LittleEndian.{from_le_bytes}
 use Rattle.slices.specs.Put.{put}
 use Rattle.slices.specs.Same.{same}
+use Rattle.std.specs.Cmp.Lexicographic.{pointwise, bytes_decides}
 use Rattle.slices.specs.Zeros.{zeros}
 use Rattle.slices.specs.Laws.LittleEndian.{Bytes, part_bytes, from_le_bytes_append, from_le_bytes_lt}
 use Rattle.slices.specs.Laws.Put.{drop_put}
-use Rattle.slices.specs.Laws.Same.{same_snoc}
-use Rattle.recorded.specs.Recorded.{number_at, numbers, agrees}
+use Rattle.slices.specs.Laws.Same.{same_iff}
+use Rattle.recorded.specs.Recorded.{number_at, numbers, numbers_by, agrees, agrees_by}
 
 ---- a part
 
@@ -57,27 +59,28 @@ number_small width at bytes b =
 
 ---- numbers
 
-length_numbers : (width count : ℕ) (bytes : List ℕ) → length (numbers width count bytes) ≡ count
-unfolding numbers
-length_numbers width zero bytes = refl
-length_numbers width (suc count) bytes = ap suc (length_numbers width count (drop width bytes))
+module _ {A : Type 0} (of_bytes : List ℕ → A) (width : ℕ) where
+  length_numbers : (count : ℕ) (bytes : List ℕ) → length (numbers_by of_bytes width count bytes) ≡ count
+  unfolding numbers_by
+  length_numbers zero bytes = refl
+  length_numbers (suc count) bytes = ap suc (length_numbers count (drop width bytes))
 
-number_of : (width count i : ℕ) (bytes : List ℕ) → i < count → get_or (numbers width count bytes) i 0 ≡ number_at width bytes (width * i)
-unfolding numbers
-number_of width zero i bytes h = absurd (omega arith)
-number_of width (suc count) zero bytes h = rw (mul-zero width)
-number_of width (suc count) (suc i) bytes h =
-    let e : width + width * i ≡ width * suc i = omega (arith, mul-suc width i) in
-    number_of width count i (drop width bytes) (omega arith) ∙ rw (drop-drop (width * i) width bytes, e)
+  number_of : (count i : ℕ) (bytes : List ℕ) (d : A) → i < count → get_or (numbers_by of_bytes width count bytes) i d ≡ of_bytes (take width (drop (width * i) bytes))
+  unfolding numbers_by
+  number_of zero i bytes d h = absurd (omega arith)
+  number_of (suc count) zero bytes d h = rw (mul-zero width)
+  number_of (suc count) (suc i) bytes d h =
+      let e : width + width * i ≡ width * suc i = omega (arith, mul-suc width i) in
+      number_of count i (drop width bytes) d (omega arith) ∙ rw (drop-drop (width * i) width bytes, e)
 
 numbers_none : (width count : ℕ) → numbers width count [] ≡ zeros count
-unfolding numbers from_le_bytes
+unfolding numbers_by from_le_bytes
 numbers_none width zero = refl
 numbers_none width (suc count) = rw (take-nil width, drop-nil width, numbers_none width count)
 
 -- zeros behind what is recorded
 pub numbers_past : (width count more : ℕ) (bytes : List ℕ) → length bytes ≤ width * count → numbers width (count + more) bytes ≡ numbers width count bytes ++ zeros more
-unfolding numbers
+unfolding numbers_by
 numbers_past width zero more bytes h =
     let e : length bytes ≤ 0 = omega (arith, mul-zero width) in
     let f : bytes ≡ [] = drop_of_length-le bytes {i = 0} e in
@@ -88,57 +91,92 @@ numbers_past width (suc count) more bytes h =
 
 ---- a table that the numbers are put into
 
-module _ (width : ℕ) (recorded before : List ℕ) where
-  abbrev recorded_numbers : List ℕ
-  recorded_numbers = numbers width (length before) recorded
+none_left : (a b : ℕ) → eqb (a - b) 0 ≡ leb a b
+none_left a b = grind (arith, nat_tests)
 
-  -- the first i numbers are put in, and it is told whether they stood there before
-  pub record PutIn (table : List ℕ) (told : Bool) (i : ℕ) : Type 0 where
+-- what follows the first `width` bytes, or nothing
+pub rest_after : (width m : ℕ) (s : List ℕ) → m ≡ min width (length s) → take (length s - m) (drop m s) ≡ drop width s
+rest_after width m s e =
+    let n : length s - m ≤ length s - m = omega arith in
+    part_rest s m (length s - m) n ∙ ⊎_elim some all (eq-zero-or-pos (width - length s))
+  where
+    some : width - length s ≡ 0 → drop m s ≡ drop width s
+    some h = ap (λ (k : ℕ). drop k s) (e ∙ min-eq_left (omega arith))
+
+    all : 0 < width - length s → drop m s ≡ drop width s
+    all h = ap (λ (k : ℕ). drop k s) (e ∙ min-eq_right (omega arith)) ∙ drop_of_length-le s {i = length s} (omega arith) ∙ sym (drop_of_length-le s {i = width} (omega arith))
+
+module _ {A : Type 0} (eq : A → A → Bool) where
+  -- one element more
+  pointwise_next : (s t : List A) (n : ℕ) (d : A) → n < length s → n < length t
+      → pointwise eq (take (suc n) s) (take (suc n) t) ≡ (pointwise eq (take n s) (take n t) && eq (get_or s n d) (get_or t n d))
+  pointwise_next [] t n d h k = absurd (omega arith)
+  pointwise_next (a ∷ s) [] n d h k = absurd (omega arith)
+  pointwise_next (a ∷ s) (b ∷ t) zero d h k = and-true (eq a b)
+  pointwise_next (a ∷ s) (b ∷ t) (suc n) d h k =
+      rw (pointwise_next s t n d (omega arith) (omega arith)) (sym (and_assoc (eq a b) (pointwise eq (take n s) (take n t)) (eq (get_or s n d) (get_or t n d))))
+
+module _ {A : Type 0} (eq : A → A → Bool) (of_bytes : List ℕ → A) (width : ℕ) (recorded : List ℕ) (before : List A) where
+  abbrev recorded_numbers : List A
+  recorded_numbers = numbers_by of_bytes width (length before) recorded
+
+  -- the first i numbers are put in, the others are left, and it is told whether the first i stood there before
+  pub record PutIn (table : List A) (rest : List ℕ) (told : Bool) (i : ℕ) : Type 0 where
     pub long : length table ≡ length before
+    pub left : rest ≡ drop (width * i) recorded
     pub is : table ≡ take i recorded_numbers ++ drop i before
-    pub same_as : told ≡ (leb (length recorded) (width * length before) && same (take i before) (take i recorded_numbers))
+    pub same_as : told ≡ pointwise eq (take i before) (take i recorded_numbers)
 
-  pub put_start : PutIn before (leb (length recorded) (width * length before)) 0
-  unfolding same
-  put_start = record { long = refl; is = refl; same_as = sym (and-true (leb (length recorded) (width * length before))) }
+  pub put_start : PutIn before recorded true 0
+  put_start = record { long = refl; left = rw (mul-zero width); is = refl; same_as = refl }
 
-  module _ (table : List ℕ) (told : Bool) (i : ℕ) (p : PutIn table told i) where
-    -- the table from the next number on, which stands as before
-    rest : i < length before → table ≡ take i recorded_numbers ++ get_or before i 0 ∷ drop (suc i) before
-    rest h = p.is ∙ rw (drop-cons before i 0 h)
-
-    put_one : i < length table → PutIn (set table i (get_or recorded_numbers i 0)) (told && eqb (get_or table i 0) (get_or recorded_numbers i 0)) (i + 1)
-    put_one h =
+  module _ (table : List A) (rest : List ℕ) (told : Bool) (i : ℕ) (p : PutIn table rest told i) where
+    pub put_next :
+        (d n : A) (agree : Bool) (rest' : List ℕ) → n ≡ of_bytes (take width rest) → agree ≡ eq (get_or table i d) n → rest' ≡ drop width rest → i < length table →
+        PutIn (set table i n) rest' (told && agree) (i + 1)
+    put_next d n agree rest' f q r h =
         let l = p.long in
         let s = recorded_numbers in
-        let size : length s ≡ length before = length_numbers width (length before) recorded in
+        let size : length s ≡ length before = length_numbers of_bytes width (length before) recorded in
         let m : i < length before = omega arith in
-        let n : i < length s = omega arith in
+        let k : i < length s = omega arith in
         let front : length (take i s) ≡ i = length-take-le i s (omega arith) in
-        let e : get_or table i 0 ≡ get_or before i 0 =
-        ap (λ (t : List ℕ). get_or t i 0) (rest m) ∙ get_or_at (take i s) (get_or before i 0) (drop (suc i) before) 0 i front in
+        let is : n ≡ get_or s i d = f ∙ rw p.left (sym (number_of of_bytes width (length before) i recorded d m)) in
+        let stands : table ≡ take i s ++ get_or before i d ∷ drop (suc i) before = p.is ∙ rw (drop-cons before i d m) in
+        let was : get_or table i d ≡ get_or before i d = ap (λ (t : List A). get_or t i d) stands ∙ get_or_at (take i s) (get_or before i d) (drop (suc i) before) d i front in
+        let far : width * i + width ≡ width * (i + 1) = omega (arith, mul-suc width i, add-one i) in
         record {
-          long = length-set table i (get_or s i 0) ∙ p.long;
+          long = length-set table i n ∙ p.long;
+          left = r ∙ ap (drop width) p.left ∙ drop-drop width (width * i) recorded ∙ ap (λ (k : ℕ). drop k recorded) far;
           is =
-              ap (λ (t : List ℕ). set t i (get_or s i 0)) (rest m)
-              ∙ set_at (take i s) (get_or before i 0) (drop (suc i) before) (get_or s i 0) i front
-              ∙ rw (add-one i, take-suc s i 0 n) (sym (append_snoc (take i s) (get_or s i 0) (drop (suc i) before)));
+              ap (λ (t : List A). set t i n) stands
+              ∙ set_at (take i s) (get_or before i d) (drop (suc i) before) n i front
+              ∙ rw (is, add-one i, take-suc s i d k) (sym (append_snoc (take i s) (get_or s i d) (drop (suc i) before)));
           same_as =
-              rw (p.same_as, e, same_snoc before s i m n)
-              (and_assoc (leb (length recorded) (width * length before)) (same (take i before) (take i s)) (eqb (get_or before i 0) (get_or s i 0)));
+              ap (λ (t : Bool). t && agree) p.same_as
+              ∙ ap (λ (t : Bool). pointwise eq (take i before) (take i s) && t) (q ∙ ap (λ (y : A). eq y n) was ∙ ap (eq (get_or before i d)) is)
+              ∙ rw (add-one i) (sym (pointwise_next eq before s i d m k));
         }
 
-    pub put_next : (n : ℕ) → n ≡ number_at width recorded (width * i) → i < length table → PutIn (set table i n) (told && eqb (get_or table i 0) n) (i + 1)
-    put_next n e h =
+    pub put_end : length table ≤ i → i ≤ length table → ((told && eqb (length rest) 0) ≡ agrees_by eq of_bytes width before recorded) × (table ≡ recorded_numbers)
+    unfolding agrees_by
+    put_end h k =
         let l = p.long in
-        let f : n ≡ get_or recorded_numbers i 0 = e ∙ sym (number_of width (length before) i recorded (omega arith)) in
-        rw f (put_one h)
-
-    pub put_end : length table ≤ i → (told ≡ agrees width before recorded) × (table ≡ recorded_numbers)
-    unfolding agrees
-    put_end h =
-        let l = p.long in
-        let size : length recorded_numbers ≡ length before = length_numbers width (length before) recorded in
+        let size : length recorded_numbers ≡ length before = length_numbers of_bytes width (length before) recorded in
         let m : length before ≤ i = omega arith in
         let n : length recorded_numbers ≤ i = omega arith in
-        (p.same_as ∙ rw (take_all i before m, take_all i recorded_numbers n), p.is ∙ rw (take_all i recorded_numbers n, drop_of_length-le before m, append-nil))
+        let e : i ≡ length before = omega arith in
+        let f : length rest ≡ length recorded - width * length before = ap length p.left ∙ length-drop (width * i) recorded ∙ ap (λ (j : ℕ). length recorded - width * j) e in
+        let g : pointwise eq (take i before) (take i recorded_numbers) ≡ pointwise eq before recorded_numbers = rw (take_all i before m, take_all i recorded_numbers n) in (
+          ap (λ (t : Bool). t && eqb (length rest) 0) (p.same_as ∙ g)
+              ∙ and_comm (pointwise eq before recorded_numbers) (eqb (length rest) 0)
+              ∙ ap (λ (t : Bool). t && pointwise eq before recorded_numbers) (ap (λ (j : ℕ). eqb j 0) f ∙ none_left (length recorded) (width * length before)),
+          p.is ∙ rw (take_all i recorded_numbers n, drop_of_length-le before m, append-nil),
+        )
+
+-- for numbers the test of equality is `same`
+pub agrees_same : (width : ℕ) (table recorded : List ℕ) → agrees width table recorded ≡ (leb (length recorded) (width * length table) && same table (numbers width (length table) recorded))
+unfolding agrees_by
+agrees_same width table recorded =
+    let s = numbers width (length table) recorded in
+    ap (λ (t : Bool). leb (length recorded) (width * length table) && t) (same_iff table s (pointwise eqb table s) (bytes_decides table s).0 (bytes_decides table s).1)

@@ -2,8 +2,8 @@
 use Rattle.std.proofs.Common.{◌-◌, ◌≤◌, length}
 use Rattle.replay.proofs.agreed_records.Given as goal
 
-abbrev pub invariant-loop-end : goal.invariant-loop-end
-invariant-loop-end l = l.count ≤ l.end
+abbrev pub invariant-loop-used : goal.invariant-loop-used
+invariant-loop-used l = (l.count ≤ l.end) × (l.end ≤ length l.records)
 
-abbrev pub decreases-loop-end : goal.decreases-loop-end
-decreases-loop-end l = length l.records - l.end
+abbrev pub decreases-loop-used : goal.decreases-loop-used
+decreases-loop-used l = length l.records - l.end

@@ -1,15 +1,18 @@
 -- `row_layout::second_test` meets its contract: the digits agree with the shapes at each of the 35 entries, which antt computes. Assumes nothing.
-use mathlib.Core.Path.{ap}
+use mathlib.Core.Path.{ap, ◌∙◌}
 use Rattle.payload.specs.Choice.{when◌then◌else◌}
 use Rattle.payload.specs.Shapes.{Shape, shape, shapes, kinds_of}
 use Rattle.row_layout.specs.Digits.{digits, entries}
 use Rattle.row_layout.specs.Laws.Layout.{shape_min}
 use Rattle.row_layout.specs.Layout.{second_test, number_test, item_test, first_test_of, second_test_of}
-use Rattle.row_layout.proofs.Table.{agrees}
+use Rattle.row_layout.proofs.Table.{agrees, at_most}
 use Rattle.row_layout.proofs.second_test.Goals as goal
+
+pub of-requires : goal.of-requires
+of-requires c = at_most 12 _ _ _ _ _ c.digit-digit.ensures (unfold entries digits in tt)
 
 pub returns : goal.returns
 returns c =
-    agrees second_test _ _ _ _ _ c.digit.ensures
+    c.of.ensures ∙ agrees second_test _ _ _ _ _ c.digit-digit.ensures
     (unfold entries digits second_test shape shapes kinds_of number_test item_test first_test_of second_test_of when◌then◌else◌ in tt)
     (unfold second_test in (ap (λ (s : Shape). second_test_of (kinds_of s)) (shape_min c.args.tag)))

@@ -26,7 +26,7 @@ put_listing-requires c = omega arith
 
 pub returns-then-bytes-gt-PAYLOAD : goal.returns-then-bytes-gt-PAYLOAD
 returns-then-bytes-gt-PAYLOAD c =
-    let told = c.put_listing.ensures in
+    let told = rw c.at.ensures at c.put_listing.ensures in
     let s = says c.args.out.now (listed_long _ _ c.if-bytes-gt-PAYLOAD.true) told.value told.out_after told.upper_bound in
     record { value = s.value; out_after = s.out_after; prefix_len = s.prefix_len }
 

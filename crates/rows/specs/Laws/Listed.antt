@@ -9,8 +9,8 @@ use Rattle.payload.specs.Reader.{Result, ok, refused}
 use Rattle.payload.specs.Reading.{Payload}
 use Rattle.payload.specs.Rows.{row_width}
 use Rattle.payload.specs.Tables.{Leaves, fields_of, read_answer, used_rows}
-use Rattle.payload.specs.declared.Read.{Read}
-use Rattle.payload.specs.declared.Read.TheVariants.{Accepted, Refused}
+use Rattle.payload.specs.Answers.{Read}
+use Rattle.refusal.specs.Answer as read
 use Rattle.listing.specs.Laws.Listing.{listing_padded}
 use Rattle.listing.specs.Listing.{listed_rows, listing, row_lines}
 use Rattle.rows.specs.Listed.{listed, listed_limit, table_reading}
@@ -18,8 +18,8 @@ use Rattle.rows.specs.Listed.{listed, listed_limit, table_reading}
 -- the rows of an answer are the third of its fields
 listed_field : (r : Read) → listed_rows r ≡ get_or (read_fields r) 2 0
 unfolding listed_rows
-listed_field (Accepted c) = refl
-listed_field (Refused number place) = refl
+listed_field (read.accepted c) = refl
+listed_field (read.refused number place) = refl
 
 used_field : (x : Result Payload) → get_or (fields_of x) 2 0 ≡ length (used_rows x) / row_width
 unfolding fields_of used_rows
@@ -43,6 +43,6 @@ listed_read bytes {rows} h l = rw (le-ltb listed_limit (length bytes) h)
     (ap₂ listing l.answer l.rows_are ∙ listing_padded (read_answer (table_reading bytes)) (used_rows (table_reading bytes)) (length rows))
 
 -- one that is too long
-pub listed_long : (bytes rows : List ℕ) → listed_limit < length bytes → listing (Refused 16 0) rows ≡ listed bytes
+pub listed_long : (bytes rows : List ℕ) → listed_limit < length bytes → listing (read.refused 16 0) rows ≡ listed bytes
 unfolding listed when◌then◌else◌ listing listed_rows row_lines
 listed_long bytes rows h = rw (lt-ltb listed_limit (length bytes) h)

@@ -1,12 +1,9 @@
 -- `scalar::bits_of_f32` meets its contract. Assumes nothing.
-use mathlib.Core.Path.{ap, sym}
+use mathlib.Core.Path.{ap, sym, ◌∙◌}
 use lib.Ieee.{to_bits, binary32}
-use Rattle.scalar.proofs.Nan.{no_nan, is_nan_lem}
+use Rattle.scalar.proofs.Nan.{is_nan_lem}
 use Rattle.scalar.proofs.bits_of_f32.Goals as goal
 
-pub returns-then-x : goal.returns-then-x
+pub returns-then-is_nan : goal.returns-then-is_nan
 unfolding to_bits
-returns-then-x c = sym (ap (to_bits binary32) (is_nan_lem c.args.x c.if-x.true))
-
-pub float_to_bits-result : goal.float_to_bits-result
-float_to_bits-result c = no_nan c.args.x c.if-x.false
+returns-then-is_nan c = sym (ap (to_bits binary32) (is_nan_lem c.args.x (sym c.is_nan.ensures.value ∙ c.if-is_nan.true)))

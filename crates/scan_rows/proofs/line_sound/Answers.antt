@@ -1,28 +1,28 @@
 -- `scan_rows::line_sound` meets its contract: by the flag.
 use mathlib.Core.List.{[]}
 use mathlib.Core.Path.{sym, ◌∙◌}
-use borrow.Author.Tests.{not-true}
-use Rattle.payload.specs.Laws.Pool.{false≢true}
+use native.Mathlib.Omega.{arith}
+use Rattle.std.proofs.lemmas.Bool.Decides.{nat_tests}
 use Rattle.payload.specs.Sound.{tables}
-use Rattle.scan_rows.specs.Laws.Script.{no_line, bad_flag, a_line}
+use Rattle.scan_rows.specs.Laws.Script.{no_line, bad_flag, a_line, starts_small}
 use Rattle.scan_rows.proofs.line_sound.Goals as goal
 
-pub returns-then-flag-eq0 : goal.returns-then-flag-eq0
-returns-then-flag-eq0 c =
-    let args = c.args in
-    no_line (tables args.store.now [] [] args.starts.now args.flag args.name_o args.name_n) c.if-flag-eq0.true
+pub returns-then-name_n-eq0 : goal.returns-then-name_n-eq0
+returns-then-name_n-eq0 c =
+    let h = no_line (tables c.args.store.now [] [] c.args.starts.now c.args.flag c.args.name_o c.args.name_n) c.in-0.is in
+    grind (arith, nat_tests)
 
-pub returns-then-flag-ne1 : goal.returns-then-flag-ne1
-returns-then-flag-ne1 c =
-    let args = c.args in
-    sym (bad_flag (tables args.store.now [] [] args.starts.now args.flag args.name_o args.name_n) c.if-flag-eq0.false c.if-flag-ne1.true)
+pub returns-else-name_n-eq0 : goal.returns-else-name_n-eq0
+returns-else-name_n-eq0 c =
+    let h = no_line (tables c.args.store.now [] [] c.args.starts.now c.args.flag c.args.name_o c.args.name_n) c.in-0.is in
+    grind (arith, nat_tests)
 
-pub returns-then-not-starts_fit : goal.returns-then-not-starts_fit
-returns-then-not-starts_fit c = false≢true (sym (not-true _ c.if-not-starts_fit.true-raw) ∙ c.starts_fit.ensures.0)
-
-pub returns : goal.returns
-returns c =
-    let args = c.args in
+pub returns-in-1 : goal.returns-in-1
+returns-in-1 c =
     c.part_is_utf8.ensures
-    ∙ a_line (tables args.store.now [] [] args.starts.now args.flag args.name_o args.name_n) c.if-flag-ne1.false
-    c.starts_fit.ensures.1
+    ∙ a_line (tables c.args.store.now [] [] c.args.starts.now c.args.flag c.args.name_o c.args.name_n) c.in-1.is
+    (starts_small c.args.starts.now (λ k. omega (arith, c.type_inv.starts k)))
+
+pub returns-in_default : goal.returns-in_default
+returns-in_default c =
+    sym (bad_flag (tables c.args.store.now [] [] c.args.starts.now c.args.flag c.args.name_o c.args.name_n) (λ e. omega arith) (λ e. omega arith))

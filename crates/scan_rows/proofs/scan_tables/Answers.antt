@@ -1,43 +1,31 @@
 -- `scan_rows::scan_tables` meets its contract: the outer chunk first, then the rows after it, the spans, the line index.
-use mathlib.Core.Path.{sym, ◌∙◌}
-use borrow.Author.Tests.{not-true, not-false}
-use Rattle.payload.specs.Sound.{tables}
+use mathlib.Core.Path.{refl, sym, ◌∙◌}
+use native.Mathlib.Omega.{arith}
+use Rattle.std.proofs.lemmas.Result.{err_from_is_err_and}
+use Rattle.payload.specs.Held.{tables_in}
 use Rattle.scan_rows.specs.Laws.Script.{line_alone, answer_bad_row, answer_rows_left, answer_spans, answer_line_lem, answer_sound}
 use Rattle.scan_rows.proofs.scan_tables.Goals as goal
 
-pub returns-then-j-rows : goal.returns-then-j-rows
-returns-then-j-rows c =
-    let args = c.args in
-    answer_rows_left (tables args.store.now args.rows.now args.spans.now args.starts.now args.flag args.name_o args.name_n)
-    c.scan_untagged.ensures c.in-Next.is c.if-j-rows.true
+pub returns-in_err-end : goal.returns-in_err-end
+returns-in_err-end c =
+    let p = err_from_is_err_and c.from_residual.result c.from_residual.ensures.1 in
+    rw (p.1, p.2) (answer_bad_row (tables_in c.args.tables) c.in_err-end.ensures refl)
+
+pub returns-then-end-count : goal.returns-then-end-count
+returns-then-end-count c =
+    answer_rows_left (tables_in c.args.tables) c.in_ok-end.ensures refl (omega (arith, c.count.ensures, c.if-end-count.true))
 
 pub returns-then-not-spans_fit : goal.returns-then-not-spans_fit
 returns-then-not-spans_fit c =
-    let args = c.args in
-    answer_spans (tables args.store.now args.rows.now args.spans.now args.starts.now args.flag args.name_o args.name_n)
-    c.scan_untagged.ensures c.in-Next.is c.if-j-rows.false c.requires.whole_rows.whole c.requires.spans_len
-    (sym c.spans_fit.ensures ∙ not-true _ c.if-not-spans_fit.true-raw)
+    answer_spans (tables_in c.args.tables) c.in_ok-end.ensures refl (omega (arith, c.count.ensures, c.if-end-count.false)) c.requires.whole_rows.whole c.requires.spans_len
+    (sym c.if-not-spans_fit.ensures)
 
 pub returns-then-not-line_sound : goal.returns-then-not-line_sound
 returns-then-not-line_sound c =
-    let args = c.args in
-    answer_line_lem (tables args.store.now args.rows.now args.spans.now args.starts.now args.flag args.name_o args.name_n)
-    c.scan_untagged.ensures c.in-Next.is c.if-j-rows.false c.requires.whole_rows.whole c.requires.spans_len
-    (sym c.spans_fit.ensures ∙ not-false _ c.if-not-spans_fit.false-raw)
-    (sym (line_alone args.store.now args.rows.now args.spans.now args.starts.now args.flag args.name_o args.name_n)
-    ∙ sym c.line_sound.ensures ∙ not-true _ c.if-not-line_sound.true-raw)
+    answer_line_lem (tables_in c.args.tables) c.in_ok-end.ensures refl (omega (arith, c.count.ensures, c.if-end-count.false)) c.requires.whole_rows.whole c.requires.spans_len
+    (sym c.if-not-spans_fit.ensures) (sym (let t = c.args.tables in line_alone t.store.now t.rows.now t.spans.now t.starts.now t.flag t.name_o t.name_n) ∙ sym c.if-not-line_sound.ensures)
 
-pub returns-else-not-line_sound : goal.returns-else-not-line_sound
-returns-else-not-line_sound c =
-    let args = c.args in
-    answer_sound (tables args.store.now args.rows.now args.spans.now args.starts.now args.flag args.name_o args.name_n)
-    c.scan_untagged.ensures c.in-Next.is c.if-j-rows.false c.requires.whole_rows.whole c.requires.spans_len
-    (sym c.spans_fit.ensures ∙ not-false _ c.if-not-spans_fit.false-raw)
-    (sym (line_alone args.store.now args.rows.now args.spans.now args.starts.now args.flag args.name_o args.name_n)
-    ∙ sym c.line_sound.ensures ∙ not-false _ c.if-not-line_sound.false-raw)
-
-pub returns-in-Bad : goal.returns-in-Bad
-returns-in-Bad c =
-    let args = c.args in
-    answer_bad_row (tables args.store.now args.rows.now args.spans.now args.starts.now args.flag args.name_o args.name_n)
-    c.scan_untagged.ensures c.in-Bad.is
+pub returns : goal.returns
+returns c =
+    answer_sound (tables_in c.args.tables) c.in_ok-end.ensures refl (omega (arith, c.count.ensures, c.if-end-count.false)) c.requires.whole_rows.whole c.requires.spans_len
+    (sym c.if-not-spans_fit.ensures) (sym (let t = c.args.tables in line_alone t.store.now t.rows.now t.spans.now t.starts.now t.flag t.name_o t.name_n) ∙ sym c.if-not-line_sound.ensures)

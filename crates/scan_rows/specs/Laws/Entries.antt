@@ -1,5 +1,5 @@
 -- The entries of a set or a map: each begins with a key that is allowed and new, and in a map a value follows.
-use Rattle.std.specs.Prelude.{Bool, ◌*◌, ◌+◌, ◌-◌, ◌<◌, ◌≤◌, suc, zero, ℕ, length}
+use Rattle.std.specs.Prelude.{Bool, ◌*◌, ◌+◌, ◌-◌, ◌<◌, ◌≤◌, suc, zero, ℕ, length, Ok, Err}
 use Rattle.std.proofs.Math.Bool.{false, not, true}
 use mathlib.Core.List.{List, [], ◌++◌, ◌∷◌}
 use Rattle.std.proofs.Common.{◌∙◌, ap, mul-suc, add-one, arith}
@@ -17,7 +17,8 @@ use Rattle.payload.specs.Shapes.{Shape, is_key_tag, keys, no_value, one_value, p
 use Rattle.payload.specs.Trees.{Node, Trees, cons, forget_items, nil, node_of}
 use Rattle.row_layout.specs.Laws.Layout.{all_from, shape_all}
 use Rattle.slices.specs.Same.{same}
-use Rattle.scan_rows.specs.Found.{Scanned}
+use Rattle.scan_rows.specs.Found.{Scanned, broken}
+use Rattle.scan_rows.specs.declared.BrokenRow.{BrokenRow}
 use Rattle.scan_rows.specs.Laws.Found.{Sofar, sofar_bad, sofar_end, sofar_none, sofar_then}
 use Rattle.scan_rows.specs.Laws.Keys.{key_in, key_row_fits, key_tagged}
 use Rattle.scan_rows.specs.Laws.Row.{row_with, value_deep, value_past, value_scanned}
@@ -26,7 +27,6 @@ use Rattle.scan_rows.specs.Laws.Under.{entries_more, last_first, skip_add, skip_
 use Rattle.scan_rows.specs.Laws.Value.{one_many, value_unfit, value_untested}
 use Rattle.scan_rows.specs.Row.{at_row, count_at, items_at, key_fits, row_count, row_fits, row_key, tag_at}
 use Rattle.scan_rows.specs.Under.{Entries, Skip, kids_under, no_entry, rows_under, scan_entries, scan_under, shape_under, stay}
-use Rattle.scan_rows.specs.declared.Scan.TheVariants.{Bad, Next}
 
 leaf_shape : Shape → Bool
 leaf_shape (with_kids ks no_value) = true
@@ -215,8 +215,8 @@ module _ {store rows : List ℕ} {width n i k at : ℕ} where
         sofar = rw more at (sofar_then s.sofar one step);
       }
 
-  pub keyed_value_bad : (d : ℕ) {p x : ℕ} (s : Keyed store rows width d n i k at) → k < n → 1 ≤ width → width ≤ 2 → 0 < d → (key_fits store rows at and not (is_in (row_key store rows at) s.its_keys)) ≡ true
-      → read_many (width - 1) (scan_value store d any_row) (at_row rows (at + 1)) ≡ refused 17 p → Scanned rows x i (Bad p) (scan_entries width n [] (scan_value store d) (at_row rows i))
+  pub keyed_value_bad : (d : ℕ) {b : BrokenRow} {x : ℕ} (s : Keyed store rows width d n i k at) → k < n → 1 ≤ width → width ≤ 2 → 0 < d → (key_fits store rows at and not (is_in (row_key store rows at) s.its_keys)) ≡ true
+      → read_many (width - 1) (scan_value store d any_row) (at_row rows (at + 1)) ≡ refused 17 b.row → Scanned rows x i (Err b) (scan_entries width n [] (scan_value store d) (at_row rows i))
   keyed_value_bad zero s h w w' p g e = absurd (omega arith)
   keyed_value_bad (suc d) s h w w' p g e =
       let f = and_left _ _ g in
@@ -225,15 +225,15 @@ module _ {store rows : List ℕ} {width n i k at : ℕ} where
       sofar_bad s.sofar (rw z (entry_value_bad store rows width d (n - (k + 1)) at s.seen w w' f new e))
 
   pub keyed_key_bad : (d : ℕ) {x : ℕ} (s : Keyed store rows width d n i k at) → length rows ≡ row_width * row_count rows → k < n → 0 < d → (key_fits store rows at and not (is_in (row_key store rows at) s.its_keys)) ≡ false
-      → Scanned rows x i (Bad at) (scan_entries width n [] (scan_value store d) (at_row rows i))
+      → Scanned rows x i (Err (broken at)) (scan_entries width n [] (scan_value store d) (at_row rows i))
   keyed_key_bad zero s w h p g = absurd (omega arith)
   keyed_key_bad (suc d) s w h p g = let z : n - k ≡ suc (n - (k + 1)) = omega arith in sofar_bad s.sofar (rw z (entry_bad store rows width (n - (k + 1)) at s.seen w d (seen_test s false g)))
 
-  pub keyed_deep : (d : ℕ) {x : ℕ} (s : Keyed store rows width d n i k at) → length rows ≡ row_width * row_count rows → k < n → d ≡ 0 → Scanned rows x i (Bad at) (scan_entries width n [] (scan_value store d) (at_row rows i))
+  pub keyed_deep : (d : ℕ) {x : ℕ} (s : Keyed store rows width d n i k at) → length rows ≡ row_width * row_count rows → k < n → d ≡ 0 → Scanned rows x i (Err (broken at)) (scan_entries width n [] (scan_value store d) (at_row rows i))
   keyed_deep zero s w h p = let z : n - k ≡ suc (n - (k + 1)) = omega arith in sofar_bad s.sofar (rw z (entry_deep store rows width (n - (k + 1)) at s.seen w))
   keyed_deep (suc d) s w h p = absurd (omega arith)
 
-  pub keyed_end : {d : ℕ} → Keyed store rows width d n i k at → n ≤ k → Scanned rows (width * n) i (Next at) (scan_entries width n [] (scan_value store d) (at_row rows i))
+  pub keyed_end : {d : ℕ} → Keyed store rows width d n i k at → n ≤ k → Scanned rows (width * n) i (Ok at) (scan_entries width n [] (scan_value store d) (at_row rows i))
   keyed_end {d} s h =
       let e : k ≡ n = omega (arith, s.upto) in
       let f : width * k ≡ width * n = ap (λ (x : ℕ). width * x) e in

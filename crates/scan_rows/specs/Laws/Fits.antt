@@ -6,12 +6,12 @@ use Rattle.std.proofs.Math.Path.{ap, refl, sym}
 use Prim.Native.Nat.{◌%◌, ◌+◌, ◌-◌, ◌<◌, ◌^◌, ◌≤◌, suc, ℕ}
 use native.Mathlib.Omega.{arith}
 use Rattle.std.proofs.Math.Dec.{eqb, leb, ltb}
-use borrow.Author.Tests.{eq-eqb, le-leb, leb-false, leb-true, lt-leb, lt-ltb, ltb-false, ltb-true, ne_eqb}
+use borrow.Author.Tests.{eq-eqb, eqb-true, le-leb, le-ltb, leb-false, leb-true, lt-leb, lt-ltb, ltb-false, ltb-true, ne_eqb}
 use Rattle.payload.specs.Choice.{◌and◌, ◌or◌, when◌then◌else◌}
 use Rattle.payload.specs.Laws.Pool.{false≢true}
 use Rattle.payload.specs.Numbers.{NumberKind, bool, char, f32, f64, fits_kind, fits_signed, handle, i16, i32, i64, i8, is_scalar, u16, u32, u64, u8}
 use Rattle.payload.specs.Rows.{kind_width, kinds_width, row_width}
-use Rattle.payload.specs.Shapes.{ItemKind, is_key_tag, kinds_of, shape, shapes}
+use Rattle.payload.specs.Shapes.{ItemKind, is_key_tag, kinds_of, no_value, shape, shapes, with_kids}
 use Rattle.row_layout.specs.Laws.Layout.{all_from, shape_all}
 use Rattle.row_layout.specs.Layout.{after_first, count_word, first_test, first_test_of, item_test, kids_rules, number_test, second_test, second_test_of, second_word, shape_rules, under_rules, used_words}
 use Rattle.signed.specs.Laws.Signed.{cut_high, cut_low}
@@ -190,6 +190,17 @@ count_low t h = leb-true _ _ (go (shape_all (λ t sh. when◌then◌else◌ (leb
   where
     go : when◌then◌else◌ (leb 2 (shape_rules (shape t))) (leb (1 + kinds_width (kinds_of (shape t))) 4) true ≡ true → leb (1 + kinds_width (kinds_of (shape t))) 4 ≡ true
     go e = rw (le-leb 2 (shape_rules (shape t)) h) at e
+
+-- numbers and strings have nothing under them
+pub none_low : (t : ℕ) → t < 7 → under_rules t ≡ 0
+unfolding under_rules when◌then◌else◌
+none_low t h = eqb-true _ _ (go (shape_all (λ t sh. when◌then◌else◌ (ltb t 7) (eqb (shape_rules sh) 0) true) (unfold all_from shapes shape_rules kids_rules ◌and◌ in refl) refl refl high t))
+  where
+    high : (t : ℕ) → 26 < t → when◌then◌else◌ (ltb t 7) (eqb (shape_rules (with_kids [] no_value)) 0) true ≡ true
+    high t h = rw (le-ltb t 7 (omega arith))
+
+    go : when◌then◌else◌ (ltb t 7) (eqb (shape_rules (shape t)) 0) true ≡ true → eqb (shape_rules (shape t)) 0 ≡ true
+    go e = rw (lt-ltb t 7 h) at e
 
 module _ (store rows : List ℕ) (i : ℕ) (u : i < row_count rows) {t : ℕ} (et : t ≡ tag_at rows i) where
   pub not_key_tag : is_key_tag t ≡ false → key_fits store rows i ≡ false

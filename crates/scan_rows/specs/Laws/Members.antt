@@ -1,5 +1,5 @@
 -- What each function of the scan found, from what its callees found.
-use Rattle.std.specs.Prelude.{Bool, List, [], ◌∷◌, ◌≡◌, ◌+◌, ◌-◌, ◌<◌, ◌≤◌, suc, zero, ℕ, ltb}
+use Rattle.std.specs.Prelude.{Bool, List, [], ◌∷◌, ◌≡◌, ◌+◌, ◌-◌, ◌<◌, ◌≤◌, suc, zero, ℕ, ltb, Ok, Err}
 use Rattle.std.proofs.Math.Bool.{false, true}
 use Rattle.std.proofs.Common.{◌∙◌}
 use Rattle.std.proofs.Math.Path.{ap, refl, sym}
@@ -15,7 +15,8 @@ use Rattle.payload.specs.Scan.{RowScan, any_row, scan_kids, scan_untagged, scan_
 use Rattle.payload.specs.Shapes.{ItemKind, Kids, kinds_of, one_value, shape, values, with_kids}
 use Rattle.payload.specs.Trees.{Node, Trees, cons}
 use Rattle.row_layout.specs.Layout.{count_word}
-use Rattle.scan_rows.specs.Found.{Scanned, WholeRows}
+use Rattle.scan_rows.specs.Found.{Scanned, WholeRows, Scan, broken}
+use Rattle.scan_rows.specs.declared.BrokenRow.{BrokenRow}
 use Rattle.scan_rows.specs.Laws.Found.{bad_of, found_by, next_of}
 use Rattle.scan_rows.specs.Laws.Row.{value_deep, value_past}
 use Rattle.scan_rows.specs.Laws.Steps.{leads_is, leads_made, leads_then}
@@ -23,24 +24,22 @@ use Rattle.scan_rows.specs.Laws.Under.{skip_add, skip_row}
 use Rattle.scan_rows.specs.Laws.Value.{function_bad, function_is, untagged_bad, untagged_leads, value_leads, value_no_tag, value_unfit}
 use Rattle.scan_rows.specs.Row.{at_row, count_at, head_fits, is_tagged, row_count, row_fits, tag_at, word_at}
 use Rattle.scan_rows.specs.Under.{kids_under, rows_under, scan_chunk, scan_chunk_or_field, scan_field, scan_template, scan_under, shape_under}
-use Rattle.scan_rows.specs.declared.Scan.{Scan}
-use Rattle.scan_rows.specs.declared.Scan.TheVariants.{Bad, Next}
 
 ---- a value
 
 module _ (store rows : List ℕ) (b : WholeRows rows) (i : ℕ) where
-  pub too_deep : (d : ℕ) → d ≡ 0 → Scanned rows 1 i (Bad i) (scan_value store d any_row (at_row rows i))
+  pub too_deep : (d : ℕ) → d ≡ 0 → Scanned rows 1 i (Err (broken i)) (scan_value store d any_row (at_row rows i))
   too_deep d e = record { found = rw e (value_deep store rows i any_row b.whole) }
 
-  pub past_rows : (d : ℕ) → row_count rows ≤ i → Scanned rows 1 i (Bad i) (scan_value store d any_row (at_row rows i))
+  pub past_rows : (d : ℕ) → row_count rows ≤ i → Scanned rows 1 i (Err (broken i)) (scan_value store d any_row (at_row rows i))
   past_rows d h = record { found = value_past store rows i (omega (arith, b.whole)) d any_row }
 
   module _ (u : i < row_count rows) where
-    pub no_value_tag : (d : ℕ) {t : ℕ} → 0 < d → t ≡ tag_at rows i → 26 < t → Scanned rows 1 i (Bad i) (scan_value store d any_row (at_row rows i))
+    pub no_value_tag : (d : ℕ) {t : ℕ} → 0 < d → t ≡ tag_at rows i → 26 < t → Scanned rows 1 i (Err (broken i)) (scan_value store d any_row (at_row rows i))
     no_value_tag zero p e h = absurd (omega arith)
     no_value_tag (suc d) p e h = record { found = value_no_tag store rows i u d any_row (lt-leb (tag_at rows i) 26 (omega (arith, e))) }
 
-    pub unfit_row : (d : ℕ) → 0 < d → row_fits store rows i ≡ false → Scanned rows 1 i (Bad i) (scan_value store d any_row (at_row rows i))
+    pub unfit_row : (d : ℕ) → 0 < d → row_fits store rows i ≡ false → Scanned rows 1 i (Err (broken i)) (scan_value store d any_row (at_row rows i))
     unfit_row zero p h = absurd (omega arith)
     unfit_row (suc d) p h = record { found = value_unfit store rows i u d any_row h }
 
@@ -66,11 +65,11 @@ module _ (store rows : List ℕ) (b : WholeRows rows) (R : RowScan) (i : ℕ) wh
   unfolding shape when◌then◌else◌
   shape_33 = refl
 
-  pub untagged_unfit : {t m : ℕ} → 32 ≤ t → t ≤ 33 → head_fits store rows t i ≡ false → Scanned rows m i (Bad i) (scan_chunk_or_field store R t (at_row rows i))
+  pub untagged_unfit : {t m : ℕ} → 32 ≤ t → t ≤ 33 → head_fits store rows t i ≡ false → Scanned rows m i (Err (broken i)) (scan_chunk_or_field store R t (at_row rows i))
   unfolding when◌then◌else◌
   untagged_unfit {t} {m} l h f = go (eqb t 32) refl
     where
-      go : (x : Bool) → eqb t 32 ≡ x → Scanned rows m i (Bad i) (when◌then◌else◌ x (scan_chunk store R) (scan_field store R) (at_row rows i))
+      go : (x : Bool) → eqb t 32 ≡ x → Scanned rows m i (Err (broken i)) (when◌then◌else◌ x (scan_chunk store R) (scan_field store R) (at_row rows i))
       go true q = record { found = untagged_bad store rows i R 32 (ItemKind.code ∷ []) values shape_32 b.whole (rw (eqb-true t 32 q) at f) }
       go false q = let k = eqb-false t 32 q in let e : t ≡ 33 = omega arith in record { found = untagged_bad store rows i R 33 (ItemKind.string ∷ []) one_value shape_33 b.whole (rw e at f) }
 
@@ -119,15 +118,16 @@ module _ (store rows : List ℕ) (b : WholeRows rows) (R : RowScan) (i : ℕ) wh
 ---- a closure's function and values
 
 module _ (store rows : List ℕ) (b : WholeRows rows) (d n i : ℕ) where
-  pub no_function : {m : ℕ} → is_tagged rows 7 i ≡ false → Scanned rows m i (Bad i) (scan_template (scan_value store d) n (at_row rows i))
+  pub no_function : {m : ℕ} → is_tagged rows 7 i ≡ false → Scanned rows m i (Err (broken i)) (scan_template (scan_value store d) n (at_row rows i))
   unfolding ◌>>=◌ and_then
   no_function f = record { found = rw (function_bad store rows i b.whole d f) }
 
-  pub function_unsound : {m k : ℕ} {r : Scan} → is_tagged rows 7 i ≡ true → r ≡ Bad k → Scanned rows 1 i r (scan_value store d any_row (at_row rows i)) → Scanned rows m i (Bad k) (scan_template (scan_value store d) n (at_row rows i))
+  pub function_unsound : {m : ℕ} {k : BrokenRow} {r : Scan} → is_tagged rows 7 i ≡ true → r ≡ Err k → Scanned rows 1 i r (scan_value store d any_row (at_row rows i))
+      → Scanned rows m i (Err k) (scan_template (scan_value store d) n (at_row rows i))
   unfolding ◌>>=◌ and_then
   function_unsound f e s = record { found = rw (function_is store rows i b.whole d f, bad_of e s) }
 
-  pub function_found : {j : ℕ} {r r' : Scan} → is_tagged rows 7 i ≡ true → r ≡ Next j → Scanned rows 1 i r (scan_value store d any_row (at_row rows i)) → Scanned rows n j r' (read_many n (scan_value store d any_row) (at_row rows j))
+  pub function_found : {j : ℕ} {r r' : Scan} → is_tagged rows 7 i ≡ true → r ≡ Ok j → Scanned rows 1 i r (scan_value store d any_row (at_row rows i)) → Scanned rows n j r' (read_many n (scan_value store d any_row) (at_row rows j))
       → Scanned rows (n + 1) i r' (scan_template (scan_value store d) n (at_row rows i))
   function_found {j} f e s s' =
       let g = next_of e s in

@@ -1,5 +1,5 @@
 -- The whole answer: rows, spans, line index.
-use Rattle.std.specs.Prelude.{Bool, ◌&&◌, List, [], ◌∷◌, ◌≡◌, ◌*◌, ◌+◌, ◌/◌, ◌<◌, ◌^◌, ◌≤◌, suc, ℕ, leb, ltb, drop, get_or, take}
+use Rattle.std.specs.Prelude.{Bool, ◌&&◌, List, [], ◌∷◌, ◌≡◌, ◌*◌, ◌+◌, ◌/◌, ◌<◌, ◌^◌, ◌≤◌, suc, ℕ, leb, ltb, drop, get_or, take, Ok, Err}
 use Rattle.std.proofs.Math.Bool.{false, true}
 use Rattle.std.proofs.Common.{◌∙◌, ap, drop_of_length-le, drop-cons}
 use Rattle.std.proofs.Math.Path.{refl}
@@ -17,15 +17,13 @@ use Rattle.payload.specs.Spans.{small_spans}
 use Rattle.payload.specs.Trees.{Node, Script}
 use Rattle.utf8.specs.Utf8.{is_utf8, part_is_utf8}
 use Rattle.scan_rows.specs.Code.{code_total, spans_fit}
-use Rattle.scan_rows.specs.Found.{Answers, Scanned}
+use Rattle.scan_rows.specs.Found.{Answers, Scanned, Scan, broken}
+use Rattle.scan_rows.specs.declared.BrokenRow.{BrokenRow}
 use Rattle.scan_rows.specs.Laws.Code.{scanned_code}
 use Rattle.scan_rows.specs.Laws.Found.{bad_of, next_of}
 use Rattle.scan_rows.specs.Laws.Steps.{and_pass, must_pass, pass}
 use Rattle.scan_rows.specs.Row.{at_row, row_count}
 use Rattle.scan_rows.specs.Under.{scan_chunk_or_field}
-use Rattle.scan_rows.specs.declared.Scan.{Scan}
-use Rattle.scan_rows.specs.declared.Scan.TheVariants.{Bad, Next}
-use Rattle.scan_rows.specs.declared.Soundness.TheVariants.{Sound, Unsound}
 
 ---- spans
 
@@ -159,19 +157,19 @@ module _ (T : Tables) {r : Scan} (s : Scanned T.rows 1 0 r (scan_chunk_or_field 
   outer_found : Scanned T.rows 1 0 r (scan_outer T.store (start T.rows))
   outer_found = rw (outer_is T.store T.rows) at s
 
-  pub answer_bad_row : {k : ℕ} → r ≡ Bad k → Answers (Unsound k) (script_of T)
+  pub answer_bad_row : {k : BrokenRow} → r ≡ Err k → Answers (Err k) (script_of T)
   answer_bad_row e = record { answer = script_refused T (bad_of e outer_found) }
 
-  module _ {j : ℕ} (e : r ≡ Next j) where
-    pub answer_rows_left : j < row_count T.rows → Answers (Unsound j) (script_of T)
+  module _ {j : ℕ} (e : r ≡ Ok j) where
+    pub answer_rows_left : j < row_count T.rows → Answers (Err (broken j)) (script_of T)
     answer_rows_left h = let g = next_of e outer_found in record { answer = rows_left T j g.0 g.1 h }
 
     module _ (h : row_count T.rows ≤ j) (w : length T.rows ≡ row_width * row_count T.rows) (even : length T.spans ≡ 2 * (length T.spans / 2)) where
-      pub answer_spans : spans_fit T.rows T.spans ≡ false → Answers (Unsound j) (script_of T)
+      pub answer_spans : spans_fit T.rows T.spans ≡ false → Answers (Err (broken j)) (script_of T)
       answer_spans f = let g = next_of e outer_found in record { answer = spans_unsound T j g.0 g.1 h w even f }
 
-      pub answer_line_lem : spans_fit T.rows T.spans ≡ true → line_sound T ≡ false → Answers (Unsound j) (script_of T)
+      pub answer_line_lem : spans_fit T.rows T.spans ≡ true → line_sound T ≡ false → Answers (Err (broken j)) (script_of T)
       answer_line_lem f l = let g = next_of e outer_found in record { answer = line_unsound T j g.0 g.1 h w even f l }
 
-      pub answer_sound : spans_fit T.rows T.spans ≡ true → line_sound T ≡ true → Answers Sound (script_of T)
+      pub answer_sound : spans_fit T.rows T.spans ≡ true → line_sound T ≡ true → Answers (Ok tt) (script_of T)
       answer_sound f l = let g = next_of e outer_found in record { answer = (_, _, all_sound T j g.0 g.1 h w even f l) }

@@ -16,13 +16,12 @@ use Rattle.payload.specs.Scan.{RowScan, Test, any_row, is_function, scan_kids, s
 use Rattle.payload.specs.Shapes.{ItemKind, Kids, Shape, keys, no_value, one_value, pairs, shape, values, with_chunk, with_fields, with_kids, with_template}
 use Rattle.payload.specs.Trees.{Node, cons, forget_items, nil, node_of}
 use Rattle.row_layout.specs.Layout.{kids_rules, shape_rules, under_rules}
-use Rattle.scan_rows.specs.Found.{Scanned}
+use Rattle.scan_rows.specs.Found.{Scanned, Scan}
 use Rattle.scan_rows.specs.Laws.Row.{row_with, untagged_past, untagged_scanned, value_deep, value_past, value_scanned}
 use Rattle.scan_rows.specs.Laws.Steps.{Leads, leads_is, leads_made, leads_then, pass, pass_refused, pass_refused_twice}
 use Rattle.scan_rows.specs.Laws.Under.{rows_under_is}
 use Rattle.scan_rows.specs.Row.{at_row, count_at, head_fits, is_tagged, items_at, row_count, row_fits, tag_at}
 use Rattle.scan_rows.specs.Under.{rows_under, scan_by, scan_under, under_by}
-use Rattle.scan_rows.specs.declared.Scan.{Scan}
 
 under_by_rules : (store : List ℕ) (r : RowScan) (sh : Shape) (n : ℕ) → scan_under store r sh n ≡ scan_by store r (shape_rules sh) n
 unfolding scan_under scan_by scan_kids shape_rules kids_rules when◌then◌else◌

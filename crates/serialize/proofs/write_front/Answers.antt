@@ -3,5 +3,4 @@ use Rattle.serialize.specs.Laws.Pooled.{written_front}
 use Rattle.serialize.proofs.write_front.Goals as goal
 
 pub returns : goal.returns
-returns c =
-    written_front _ _ _ _ c.requires.need_value c.requires.need_in_bounds.0 c.write_out.ensures
+returns c = written_front _ _ _ _ c.requires.need_value c.requires.need_in_bounds.0 c.write_out.ensures

@@ -1,9 +1,6 @@
+use Rattle.std.proofs.Common.{◌≡◌, ◌-◌, ◌*◌, length, drop}
 use Rattle.trie.specs.Hash.{of_words}
-use Rattle.std.proofs.Common.{◌≡◌, ◌-◌, ◌≤◌, length, drop}
 use Rattle.trie.proofs.hash_words.Given as goal
 
 abbrev pub invariant-loop-i : goal.invariant-loop-i
-invariant-loop-i l = (l.i ≤ length l.s) × (of_words (length l.s) (length l.s) l.s ≡ of_words (length l.s - l.i) l.h (drop l.i l.s))
-
-abbrev pub decreases-loop-i : goal.decreases-loop-i
-decreases-loop-i l = length l.s - l.i
+invariant-loop-i l = of_words (length l.s) (length l.s) l.s ≡ of_words (length l.s - 8 * l.i) l.h (drop (8 * l.i) l.s)

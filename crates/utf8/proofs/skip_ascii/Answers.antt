@@ -20,7 +20,7 @@ pub returns-then-n-lt8 : goal.returns-then-n-lt8
 returns-then-n-lt8 c =
     let a = c.args in
     let s : List ℕ = a.s.now in
-    let small : Bytes s = λ k. omega (arith, c.shared_slice_known-1.given k) in
+    let small : Bytes s = λ k. omega (arith, c.type_inv.s k) in
     let n : ℕ = count_trailing_zeros 64 c.high_bits.result / 8 in
     let e : n ≡ count_trailing_zeros 64 (high_bits s a.from) / 8 = ap (λ (m : ℕ). count_trailing_zeros 64 m / 8) c.high_bits.ensures in
     let ascii = prefix_ascii s a.from (omega arith) small n (omega arith) e in
@@ -30,7 +30,7 @@ pub returns : goal.returns
 returns c =
     let a = c.args in
     let s : List ℕ = a.s.now in
-    let small : Bytes s = λ k. omega (arith, c.shared_slice_known-1.given k) in
+    let small : Bytes s = λ k. omega (arith, c.type_inv.s k) in
     let t = ap (λ (m : ℕ). count_trailing_zeros 64 m) c.high_bits.ensures in
     let e : 8 ≡ count_trailing_zeros 64 (high_bits s a.from) / 8 = omega (arith, trailing_le 64 (high_bits s a.from)) in
     let ascii = prefix_ascii s a.from (omega arith) small 8 (omega arith) e in

@@ -8,11 +8,10 @@ use native.Mathlib.Nat.{mod-lt, mul-mod_left}
 use lib.Arith.{digits_lt}
 use lib.Pow.{pow-add, pow_pos, mod-pow-add}
 use lib.ListN.{length, drop, get_or}
-use Rattle.varint.specs.declared.Varint.{Varint}
-use Rattle.varint.specs.declared.Varint.TheVariants.{Number, Refused}
+use Rattle.varint.specs.Varint.{Varint}
+use Rattle.varint.specs.Varint.{Number, Refused}
 use Rattle.varint.specs.Varint.{under, scan, cut, varint_of}
 use Rattle.varint.specs.Laws.Varint.{at_end, at_last, at_more, onto, onto_under, scan_none}
-use Rattle.varint.proofs.uvarint_long.Goals.{else-end-at-gt10, then-end-at-gt10}
 use Rattle.varint.proofs.uvarint_long.Invariants.{Sofar}
 use Rattle.varint.proofs.uvarint_long.Goals as goal
 
@@ -103,10 +102,10 @@ module _ (s : List ℕ) (at end value shift i : ℕ) (inv : Sofar s at end value
 pub loop-i-init : goal.loop-i-init
 loop-i-init c =
     let p = c.requires in
-    elim c.if-end-at-gt10.branch [
-      | then-end-at-gt10 w ↦ first _ _ _ p.0 p.1 (omega (arith, w)) (omega (arith, w)) (omega (arith, w)) (λ l. omega (arith, w))
-      | else-end-at-gt10 w ↦ first _ _ _ p.0 p.1 (omega (arith, w)) (omega (arith, w)) (omega (arith, w)) (λ l. w.end-is)
-    ]
+    let e = c.min-end.ensures in
+    let f = c.saturating_add.ensures in
+    let one : 7 * (c.args.at + 1 - c.args.at) ≡ 7 = omega arith in
+    rw one (first _ _ _ p.0 p.1 (omega arith) (omega arith) (omega arith) (λ l. omega arith))
 
 pub bounds-bytes-i : goal.bounds-bytes-i
 bounds-bytes-i c = omega (arith, c.loop-i.invariant)
@@ -117,7 +116,7 @@ overflow_shl-result c = in_64 _ _ _ _ _ _ c.loop-i.invariant c.loop-i-test.true
 pub overflow_add-result : goal.overflow_add-result
 overflow_add-result c =
     let l = c.loop-i in
-    record { fits = sum_fits l.value _ l.shift (in_64 _ _ _ _ _ _ l.invariant c.loop-i-test.true) l.invariant.small }
+    record { fits = sum_fits l.value _ _ (in_64 _ _ _ _ _ _ l.invariant c.loop-i-test.true) l.invariant.small }
 
 pub returns-then-b-lt128 : goal.returns-then-b-lt128
 returns-then-b-lt128 c = last _ _ _ _ _ _ c.loop-i.invariant c.loop-i-test.true c.if-b-lt128.true
@@ -128,22 +127,16 @@ overflow_shl-value c = in_64 _ _ _ _ _ _ c.loop-i.invariant c.loop-i-test.true
 pub overflow_add-value : goal.overflow_add-value
 overflow_add-value c =
     let l = c.loop-i in
-    record { fits = sum_fits l.value _ l.shift (in_64 _ _ _ _ _ _ l.invariant c.loop-i-test.true) l.invariant.small }
-
-pub overflow_add-shift : goal.overflow_add-shift
-overflow_add-shift c = omega (arith, in_64 _ _ _ _ _ _ c.loop-i.invariant c.loop-i-test.true)
-
-pub loop-i-smaller : goal.loop-i-smaller
-loop-i-smaller c = omega arith
+    record { fits = sum_fits l.value _ _ (in_64 _ _ _ _ _ _ l.invariant c.loop-i-test.true) l.invariant.small }
 
 pub loop-i-preserved : goal.loop-i-preserved
-loop-i-preserved c = more _ _ _ _ _ _ c.loop-i.invariant c.loop-i-test.true c.if-b-lt128.false
+loop-i-preserved c =
+    let l = c.loop-i in
+    let next : 7 * (l.i - c.args.at) + 7 ≡ 7 * (l.i + 1 - c.args.at) = omega (arith, l.invariant) in
+    rw (← next) (more _ _ _ _ _ _ l.invariant c.loop-i-test.true c.if-b-lt128.false)
 
-pub overflow_sub-i : goal.overflow_sub-i
-overflow_sub-i c = omega (arith, c.loop-i.invariant)
-
-pub returns-then-i-at-lt10 : goal.returns-then-i-at-lt10
-returns-then-i-at-lt10 c = ended _ _ _ _ _ _ c.loop-i.invariant c.loop-i-test.false c.if-i-at-lt10.true
+pub returns-then-end-at-lt10 : goal.returns-then-end-at-lt10
+returns-then-end-at-lt10 c = rw c.at.ensures (ended _ _ _ _ _ _ c.loop-i.invariant c.loop-i-test.false (omega (arith, c.loop-i.invariant)))
 
 pub returns : goal.returns
-returns c = too_long _ _ _ _ _ _ c.loop-i.invariant c.loop-i-test.false c.if-i-at-lt10.false
+returns c = rw c.at-2.ensures (too_long _ _ _ _ _ _ c.loop-i.invariant c.loop-i-test.false (omega (arith, c.loop-i.invariant)))

@@ -17,7 +17,4 @@ pub record Sofar (s : List ℕ) (at end value shift i : ℕ) : Type 0 where
   pub reads : varint_of s at ≡ cut (onto value (2 ^ shift) (scan at (at + 10 - i) (drop i s) i))
 
 abbrev pub invariant-loop-i : goal.invariant-loop-i
-invariant-loop-i l = Sofar l.bytes l.at l.end l.value l.shift l.i
-
-abbrev pub decreases-loop-i : goal.decreases-loop-i
-decreases-loop-i l = l.end - l.i
+invariant-loop-i l = Sofar l.bytes l.at l.end l.value (7 * (l.i - l.at)) l.i

@@ -7,8 +7,8 @@ use Rattle.std.proofs.Math.Logic.{⊎_elim}
 use Prim.Native.Nat.{ℕ, zero, suc, ◌+◌, ◌-◌, ◌*◌, ◌/◌, ◌%◌, ◌^◌, ◌≤◌, ◌<◌}
 use native.Mathlib.Omega.{arith}
 use Rattle.std.proofs.Math.ListN.{length, get_or}
-use Rattle.varint.specs.declared.Varint.{Varint}
-use Rattle.varint.specs.declared.Varint.TheVariants.{Number, Refused}
+use Rattle.varint.specs.Varint.{Varint}
+use Rattle.varint.specs.Varint.{Number, Refused}
 use Rattle.varint.specs.Uleb128.{uleb128}
 use Rattle.varint.specs.Varint.{under, scan, cut, varint_of}
 use Rattle.varint.specs.Laws.Uleb128.{below_or, uleb_small, uleb_large, uleb_some, uleb_at_most, pow_seven}

@@ -2,8 +2,8 @@
 use Rattle.std.specs.Prelude.{◌≡◌, List, [], ◌∷◌, ℕ, zero, suc, ◌+◌, ◌*◌, ◌%◌, ◌≤◌, ◌<◌, length, drop, get_or}
 use Rattle.std.proofs.Math.Path.{refl}
 use Rattle.std.proofs.Common.{sym, ap, ◌∙◌, mod-eq_of_lt, arith, add-one, lt-ltb, le-ltb, drop_of_length-le, drop-cons}
-use Rattle.varint.specs.declared.Varint.{Varint}
-use Rattle.varint.specs.declared.Varint.TheVariants.{Number, Refused}
+use Rattle.varint.specs.Varint.{Varint}
+use Rattle.varint.specs.Varint.{Number, Refused}
 use Rattle.varint.specs.Varint.{under, scan, cut, varint_of}
 
 module _ (first : ℕ) where

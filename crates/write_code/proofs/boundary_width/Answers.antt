@@ -22,7 +22,3 @@ returns-then-is_near-n c =
           ∙ three args.ends _ _ args.n _ _ c.if-is_near-n.true c.is_near.ensures c.is_near-2.ensures,
       omega arith,
     )
-
-pub returns-then-ends : goal.returns-then-ends
-returns-then-ends c =
-    (rw c.if-ends.true (omega (arith, c.width.ensures.0, c.delta_width.ensures.0, c.delta_width-then-ends.ensures.0)), omega arith)

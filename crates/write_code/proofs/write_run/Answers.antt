@@ -2,13 +2,13 @@
 use Rattle.std.proofs.Common.{ℕ, ◌++◌, ap₂}
 use Rattle.varint.specs.Uleb128.{uleb128}
 use Rattle.payload.specs.Spans.{write_delta}
-use Rattle.emit.specs.Laws.Emit.{emitted_as}
+use Rattle.emit.specs.Laws.Emitter.{emits_as}
 use Rattle.write_code.proofs.write_run.Goals as goal
 
 pub returns : goal.returns
 unfolding write_delta
 returns c =
     let args = c.args in
-    emitted_as
-    (ap₂ (λ (x y : ℕ). (uleb128 x ++ uleb128 y) ++ uleb128 args.n) c.zigzag_delta.ensures
-    c.zigzag_delta-2.ensures) c.emit_three_varints.ensures
+    emits_as
+    (ap₂ (λ (x y : ℕ). (uleb128 x ++ uleb128 y) ++ uleb128 args.n) c.delta_to.ensures
+    c.delta_to-2.ensures) c.three_varints.ensures

@@ -1,71 +1,42 @@
--- `write_rows::write_number` meets its contract: each form of a number is one emitter.
-use mathlib.Core.Path.{ap}
-use native.Mathlib.Omega.{arith}
-use borrow.Author.Tests.{eq-eqb, ne_eqb}
+-- `write_rows::write_number` meets its contract: each form of a number is one call of the emitter.
+use Rattle.std.proofs.Common.{ap, arith}
+use borrow.Author.Tests.{ne_eqb}
 use Rattle.varint.specs.Uleb128.{uleb128}
 use Rattle.payload.specs.Choice.{when◌then◌else◌}
-use Rattle.emit.specs.Laws.Emit.{emitted_as, emitted_none}
+use Rattle.emit.specs.Laws.Emitter.{emits_as, emits_none}
 use Rattle.write_rows.specs.Walk.{item_bytes}
 use Rattle.write_rows.proofs.write_number.Goals as goal
 
-pub returns-then-form-eq1 : goal.returns-then-form-eq1
+pub returns-in-1 : goal.returns-in-1
 unfolding item_bytes when◌then◌else◌
-returns-then-form-eq1 c =
-    let args = c.args in
-    rw (eq-eqb args.form 1 c.if-form-eq1.true) c.emit_varint.ensures
+returns-in-1 c = rw c.in-1.is c.varint.ensures
 
-pub returns-then-form-eq2 : goal.returns-then-form-eq2
+pub returns-in-2 : goal.returns-in-2
 unfolding item_bytes when◌then◌else◌
-returns-then-form-eq2 c =
-    let if1 = c.if-form-eq1 in
-    let args = c.args in
-    rw (ne_eqb args.form 1 if1.false, eq-eqb args.form 2 c.if-form-eq2.true)
-    (emitted_as (ap uleb128 c.zigzag_word.ensures) c.emit_varint-then-form-eq2.ensures)
+returns-in-2 c = rw c.in-2.is (emits_as (ap uleb128 c.zigzag_word.ensures) c.varint-in-2.ensures)
 
-pub returns-then-form-eq3 : goal.returns-then-form-eq3
+pub returns-in-3 : goal.returns-in-3
 unfolding item_bytes when◌then◌else◌
-returns-then-form-eq3 c =
-    let if2 = c.if-form-eq2 in
-    let if1 = c.if-form-eq1 in
-    let args = c.args in
-    rw (ne_eqb args.form 1 if1.false, ne_eqb args.form 2 if2.false, eq-eqb args.form 3 c.if-form-eq3.true)
-    c.emit_byte.ensures
+returns-in-3 c = rw c.in-3.is c.byte.ensures
 
-pub returns-then-form-eq4 : goal.returns-then-form-eq4
+pub returns-in-4 : goal.returns-in-4
 unfolding item_bytes when◌then◌else◌
-returns-then-form-eq4 c =
-    let if3 = c.if-form-eq3 in
-    let if2 = c.if-form-eq2 in
-    let if1 = c.if-form-eq1 in
-    let args = c.args in
-    rw (ne_eqb args.form 1 if1.false, ne_eqb args.form 2 if2.false, ne_eqb args.form 3 if3.false, eq-eqb args.form 4 c.if-form-eq4.true)
-    c.emit_le.ensures
+returns-in-4 c = rw c.in-4.is c.little_endian.ensures
 
-pub returns-then-form-eq5 : goal.returns-then-form-eq5
+pub returns-in-5 : goal.returns-in-5
 unfolding item_bytes when◌then◌else◌
-returns-then-form-eq5 c =
-    let if4 = c.if-form-eq4 in
-    let if3 = c.if-form-eq3 in
-    let if2 = c.if-form-eq2 in
-    let args = c.args in
+returns-in-5 c = rw c.in-5.is c.little_endian-in-5.ensures
+
+pub returns-in_default : goal.returns-in_default
+unfolding item_bytes when◌then◌else◌
+returns-in_default c =
+    let form = c.args.form in
     rw (
-      ne_eqb args.form 1 c.if-form-eq1.false,
-      ne_eqb args.form 2 if2.false,
-      ne_eqb args.form 3 if3.false,
-      ne_eqb args.form 4 if4.false,
-      eq-eqb args.form 5 c.if-form-eq5.true,
-    ) c.emit_le-then-form-eq5.ensures
-
-pub returns : goal.returns
-unfolding item_bytes when◌then◌else◌
-returns c =
-    let args = c.args in
-    rw (
-      ne_eqb args.form 1 c.if-form-eq1.false,
-      ne_eqb args.form 2 c.if-form-eq2.false,
-      ne_eqb args.form 3 c.if-form-eq3.false,
-      ne_eqb args.form 4 c.if-form-eq4.false,
-      ne_eqb args.form 5 c.if-form-eq5.false,
-      ne_eqb args.form 6 (λ e. omega arith),
-      ne_eqb args.form 7 (λ e. omega arith),
-    ) (emitted_none c.requires.ready.place)
+      ne_eqb form 1 (λ e. omega arith),
+      ne_eqb form 2 (λ e. omega arith),
+      ne_eqb form 3 (λ e. omega arith),
+      ne_eqb form 4 (λ e. omega arith),
+      ne_eqb form 5 (λ e. omega arith),
+      ne_eqb form 6 c.requires.0,
+      ne_eqb form 7 c.requires.1,
+    ) (emits_none _)

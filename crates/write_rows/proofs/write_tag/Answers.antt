@@ -2,16 +2,13 @@
 use borrow.Author.Tests.{le-leb, lt-leb}
 use Rattle.payload.specs.Choice.{when◌then◌else◌}
 use Rattle.payload.specs.Writing.{tag_byte}
-use Rattle.emit.specs.Laws.Emit.{emitted_none}
+use Rattle.emit.specs.Laws.Emitter.{emits_none}
 use Rattle.write_rows.proofs.write_tag.Goals as goal
 
 pub returns-then-tag-le26 : goal.returns-then-tag-le26
 unfolding tag_byte when◌then◌else◌
-returns-then-tag-le26 c =
-    let args = c.args in
-    rw (le-leb args.tag 26 c.if-tag-le26.true) c.emit_byte.ensures
+returns-then-tag-le26 c = rw (le-leb c.args.tag 26 c.if-tag-le26.true) c.byte.ensures
 
-pub returns : goal.returns
+pub returns-else-tag-le26 : goal.returns-else-tag-le26
 unfolding tag_byte when◌then◌else◌
-returns c =
-    rw (lt-leb c.args.tag 26 c.if-tag-le26.false) (emitted_none c.requires.place)
+returns-else-tag-le26 c = rw (lt-leb c.args.tag 26 c.if-tag-le26.false) (emits_none _)

@@ -1,11 +1,11 @@
+use mathlib.Core.List.{◌++◌}
 use mathlib.Core.Path.{◌≡◌}
-use Prim.Native.Nat.{◌≤◌, ◌-◌}
-use lib.ListN.{length}
-use Rattle.deserialize.proofs.PlainWords.{plain_to}
+use Prim.Native.Nat.{◌%◌}
+use lib.ListN.{drop, take}
+use Rattle.std.specs.Prelude.{map}
+use Rattle.read_items.specs.Context.{hint_base}
 use Rattle.deserialize.proofs.hints.take_away.Given as goal
 
-abbrev pub invariant-loop-i : goal.invariant-loop-i
-invariant-loop-i l = (l.pool ≡ plain_to l.i l.initial.pool) × (length l.pool ≡ length l.initial.pool) × (l.i ≤ length l.pool)
-
-abbrev pub decreases-loop-i : goal.decreases-loop-i
-decreases-loop-i l = length l.initial.pool - l.i
+abbrev pub invariant-loop-word : goal.invariant-loop-word
+invariant-loop-word l =
+    l.word-items ≡ map (λ word. word % hint_base) (take l.word-index l.initial.word-items) ++ drop l.word-index l.initial.word-items

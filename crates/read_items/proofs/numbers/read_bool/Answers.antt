@@ -1,21 +1,22 @@
 -- `read_bool` meets its contract: a byte that is 0, one that is not, or none.
-use borrow.Author.Tests.{eq-eqb, ne_eqb}
+use Rattle.std.specs.Prelude.{Bool, true, false, not, eqb, ◌≡◌, refl}
+use Rattle.std.specs.Int.{from_bool}
 use Rattle.payload.specs.Choice.{when◌then◌else◌}
 use Rattle.payload.specs.Numbers.{read_number}
+use Rattle.refusal.specs.Laws.Errors.{same_error}
+use Rattle.cursor.specs.Laws.Advances.{by_law, stop_reads}
 use Rattle.read_items.specs.Laws.Numbers.{reads_bool}
-use Rattle.read_items.specs.Laws.Reads.{was_read, was_refused, reads_stop}
 use Rattle.read_items.proofs.numbers.read_bool.Goals as goal
 
-pub returns-then-b-eq0 : goal.returns-then-b-eq0
+-- whether a byte is not 0, as a number
+zero_or_one : (t : Bool) → when t then 0 else 1 ≡ from_bool (not t)
 unfolding when◌then◌else◌
-returns-then-b-eq0 c =
-    rw (eq-eqb _ _ c.if-b-eq0.true) at (reads_bool (was_read c.in-Read.is c.read_byte.ensures))
+zero_or_one true = refl
+zero_or_one false = refl
 
-pub returns-else-b-eq0 : goal.returns-else-b-eq0
-unfolding when◌then◌else◌
-returns-else-b-eq0 c =
-    rw (ne_eqb _ _ c.if-b-eq0.false) at (reads_bool (was_read c.in-Read.is c.read_byte.ensures))
-
-pub returns-in-Refused : goal.returns-in-Refused
+pub returns-in_err-byte : goal.returns-in_err-byte
 unfolding read_number
-returns-in-Refused c = reads_stop _ (was_refused c.in-Refused.is c.read_byte.ensures)
+returns-in_err-byte c = rw (same_error c.from_residual.result _ c.from_residual.ensures.1) (stop_reads _ c.in_err-byte.ensures)
+
+pub returns : goal.returns
+returns c = rw (← zero_or_one (eqb c.in_ok-byte.field-0 0)) (by_law reads_bool c.in_ok-byte.ensures)

@@ -1,22 +1,19 @@
 -- `read_char` meets its contract: the cut number is a Unicode scalar, is none, or no varint is read.
-use mathlib.Core.Path.{sym, ◌∙◌}
+use Rattle.std.proofs.Common.{sym, ◌∙◌}
 use Rattle.payload.specs.Numbers.{read_number}
+use Rattle.refusal.specs.Laws.Errors.{same_error}
+use Rattle.cursor.specs.Laws.Advances.{by_law}
 use Rattle.read_items.specs.Laws.Numbers.{reads_tested, reads_tested_not, reads_tested_stop}
-use Rattle.read_items.specs.Laws.Reads.{was_read, was_refused}
 use Rattle.read_items.proofs.numbers.read_char.Goals as goal
+
+pub returns-in_err-c : goal.returns-in_err-c
+unfolding read_number
+returns-in_err-c c = rw (same_error c.from_residual.result _ c.from_residual.ensures.1) (by_law (λ g. reads_tested_stop g _ _ _) c.in_err-c.ensures)
 
 pub returns-then-is_scalar : goal.returns-then-is_scalar
 unfolding read_number
-returns-then-is_scalar c =
-    let v = was_read c.in-Read.is c.read_uvarint.ensures in
-    reads_tested v _ _ _ (sym c.is_scalar.ensures ∙ c.if-is_scalar.true)
+returns-then-is_scalar c = by_law (λ g. reads_tested g _ _ _ (sym c.is_scalar.ensures ∙ c.if-is_scalar.true)) c.in_ok-c.ensures
 
-pub returns-else-is_scalar : goal.returns-else-is_scalar
+pub returns : goal.returns
 unfolding read_number
-returns-else-is_scalar c =
-    let v = was_read c.in-Read.is c.read_uvarint.ensures in
-    reads_tested_not v _ _ _ (sym c.is_scalar.ensures ∙ c.if-is_scalar.false)
-
-pub returns-in-Refused : goal.returns-in-Refused
-unfolding read_number
-returns-in-Refused c = reads_tested_stop (was_refused c.in-Refused.is c.read_uvarint.ensures) _ _ _
+returns c = rw c.at.ensures (by_law (λ g. reads_tested_not g _ _ _ (sym c.is_scalar.ensures ∙ c.if-is_scalar.false)) c.in_ok-c.ensures)

@@ -1,15 +1,11 @@
 -- `read_cut` meets its contract: a varint, cut, or none.
+use Rattle.refusal.specs.Laws.Errors.{same_error}
+use Rattle.cursor.specs.Laws.Advances.{by_law}
 use Rattle.read_items.specs.Laws.Numbers.{reads_cut, reads_cut_stop}
-use Rattle.read_items.specs.Laws.Reads.{was_read, was_refused}
 use Rattle.read_items.proofs.numbers.read_cut.Goals as goal
 
-pub returns-in-Read : goal.returns-in-Read
-returns-in-Read c =
-    let args = c.args in
-    let v = was_read c.in-Read.is c.read_uvarint.ensures in
-    rw c.cut_word.ensures (reads_cut v args.cut)
+pub returns-in_err-uvarint : goal.returns-in_err-uvarint
+returns-in_err-uvarint c = rw (same_error c.from_residual.result _ c.from_residual.ensures.1) (by_law (λ g. reads_cut_stop g c.args.cut) c.in_err-uvarint.ensures)
 
-pub returns-in-Refused : goal.returns-in-Refused
-returns-in-Refused c =
-    let args = c.args in
-    reads_cut_stop (was_refused c.in-Refused.is c.read_uvarint.ensures) args.cut
+pub returns : goal.returns
+returns c = rw c.cut_word.ensures (by_law (λ g. reads_cut g c.args.cut) c.in_ok-uvarint.ensures)

@@ -1,22 +1,15 @@
-use mathlib.Core.Path.{◌∙◌}
-use mir.Facts.{to_z-of_z}
-use Rattle.read_items.specs.Laws.Reads.{was_read, was_refused}
-use Rattle.read_items.specs.Laws.Positions.{signed, reads_position, reads_no_position, reads_position_stop}
+-- `read_position` meets its contract: the delta leads to a position, leads out, or no varint is read.
+use Rattle.std.proofs.Common.{to_z-of_z, ◌∙◌}
+use Rattle.std.specs.Int.{w64}
+use Rattle.refusal.specs.Laws.Errors.{same_error}
+use Rattle.cursor.specs.Laws.Advances.{by_law}
+use Rattle.read_items.specs.Laws.Positions.{reads_position, reads_position_stop}
 use Rattle.read_items.proofs.positions.read_position.Goals as goal
 
-pub returns-in-At : goal.returns-in-At
-returns-in-At c =
-    let fits = c.ranges in
-    rw (signed c.in-At.known_told-in-At-1-own.given.0.1) (reads_position (to_z-of_z fits.old)
-    (signed c.unzigzag.type_inv ∙ c.unzigzag.ensures) c.add_delta.ensures
-    (was_read c.in-Read.is c.read_uvarint.ensures) c.in-At.is)
+pub returns-in_err-uvarint : goal.returns-in_err-uvarint
+returns-in_err-uvarint c = rw (same_error c.from_residual.result _ c.from_residual.ensures.1) (by_law (reads_position_stop _) c.in_err-uvarint.ensures)
 
-pub returns-in-OutOfRange : goal.returns-in-OutOfRange
-returns-in-OutOfRange c =
-    let fits = c.ranges in
-    reads_no_position (to_z-of_z fits.old)
-    (signed c.unzigzag.type_inv ∙ c.unzigzag.ensures) c.add_delta.ensures
-    (was_read c.in-Read.is c.read_uvarint.ensures) c.in-OutOfRange.is
-
-pub returns-in-Refused : goal.returns-in-Refused
-returns-in-Refused c = reads_position_stop _ (was_refused c.in-Refused.is c.read_uvarint.ensures)
+pub returns : goal.returns
+returns c =
+    let delta = to_z-of_z {w = w64} (record { sfits = c.unzigzag-delta.type_inv }) ∙ c.unzigzag-delta.ensures in
+    rw (c.ok_or.ensures.value, c.at.ensures) (by_law (reads_position _ (to_z-of_z c.ranges.old) delta c.add_delta.ensures) c.in_ok-uvarint.ensures)

@@ -1,22 +1,11 @@
--- `write_row` meets its contract: five stores in a row are one run.
-use Rattle.slices.specs.Put.{put}
-use native.Mathlib.Numerals.{towards_suc}
-use native.Mathlib.Omega.{arith}
-use lib.ListN.{length-set}
+-- `write_row` meets its contract: the words before the row's place, the row's five, and those after them.
+use Rattle.std.specs.Prelude.{[], ◌∷◌, ◌≡◌, ◌+◌, ◌-◌, ◌*◌}
+use Rattle.std.proofs.Common.{arith, drop-drop}
+use Rattle.slices.specs.Laws.Put.{put_parts}
 use Rattle.read_values.proofs.rows.write_row.Goals as goal
 
-pub bounds-rows-i-2 : goal.bounds-rows-i-2
-bounds-rows-i-2 c = simp length-set (omega arith)
-
-pub bounds-rows-i-3 : goal.bounds-rows-i-3
-bounds-rows-i-3 c = simp length-set (omega arith)
-
-pub bounds-rows-i-4 : goal.bounds-rows-i-4
-bounds-rows-i-4 c = simp length-set (omega arith)
-
-pub bounds-rows-i-5 : goal.bounds-rows-i-5
-bounds-rows-i-5 c = simp length-set (omega arith)
-
 pub returns : goal.returns
-unfolding put
-returns c = simp towards_suc
+returns c =
+    let used = c.args.used in
+    let n : 5 * used + 5 - 5 * used ≡ 5 = omega arith in
+    rw (n, c.copy_from_slice.ensures.after, put_parts c.args.rows.now (5 * used) (c.args.tag ∷ c.args.head.a ∷ c.args.head.b ∷ c.args.head.c ∷ c.args.head.d ∷ []) c.requires.0, drop-drop)

@@ -1,7 +1,6 @@
 use Rattle.read_values.proofs.EntryLoop.{EntrySofar}
-use Prim.Native.Nat.{◌-◌}
 use Rattle.payload.specs.Reading.{read_value}
-use Rattle.read_values.specs.Did.{context}
+use Rattle.read_values.specs.Did.{context_in}
 use Rattle.read_values.proofs.Loop.{Sofar}
 use Rattle.read_values.specs.Under.{field_row}
 use Prim.Native.Nat.{◌+◌}
@@ -37,22 +36,13 @@ decreases-read_values l = 8 * l.left + 1
 
 abbrev pub invariant-read_entries-loop-k : goal.invariant-read_entries-loop-k
 invariant-read_entries-loop-k l =
-    EntrySofar l.capacities l.bytes l.initial.rows l.rows l.initial.spans l.spans l.gap (read_value (context l.capacities l.bytes l.names l.pool) l.left) l.initial.now l.now l.count l.k
-
-abbrev pub decreases-read_entries-loop-k : goal.decreases-read_entries-loop-k
-decreases-read_entries-loop-k l = l.count - l.k
+    EntrySofar l.source.capacities l.source.payload.now l.initial.rows l.rows l.initial.spans l.spans l.gap (read_value (context_in l.source) l.left) l.initial.now l.now l.count l._k
 
 abbrev pub invariant-read_fields-loop-k : goal.invariant-read_fields-loop-k
 invariant-read_fields-loop-k l =
-    Sofar l.capacities l.bytes l.initial.rows l.rows l.initial.spans l.spans (field_row (context l.capacities l.bytes l.names l.pool) (read_value (context l.capacities l.bytes l.names l.pool) l.left)) l.initial.now
-    l.now l.count l.k
-
-abbrev pub decreases-read_fields-loop-k : goal.decreases-read_fields-loop-k
-decreases-read_fields-loop-k l = l.count - l.k
+    Sofar l.source.capacities l.source.payload.now l.initial.rows l.rows l.initial.spans l.spans (field_row (context_in l.source) (read_value (context_in l.source) l.left)) l.initial.now
+    l.now l.count l._k
 
 abbrev pub invariant-read_values-loop-k : goal.invariant-read_values-loop-k
 invariant-read_values-loop-k l =
-    Sofar l.capacities l.bytes l.initial.rows l.rows l.initial.spans l.spans (read_value (context l.capacities l.bytes l.names l.pool) l.left) l.initial.now l.now l.count l.k
-
-abbrev pub decreases-read_values-loop-k : goal.decreases-read_values-loop-k
-decreases-read_values-loop-k l = l.count - l.k
+    Sofar l.source.capacities l.source.payload.now l.initial.rows l.rows l.initial.spans l.spans (read_value (context_in l.source) l.left) l.initial.now l.now l.count l._k

@@ -1,8 +1,0 @@
--- `count_head` meets its contract, variant by variant.
-use Rattle.read_heads.proofs.count_head.Goals as goal
-
-pub returns-in-Read : goal.returns-in-Read
-returns-in-Read c = rw c.in-Read.is
-
-pub returns-in-Refused : goal.returns-in-Refused
-returns-in-Refused c = rw c.in-Refused.is
