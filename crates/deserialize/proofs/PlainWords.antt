@@ -3,11 +3,10 @@ use mathlib.Core.List.{List, [], ◌∷◌}
 use mathlib.Core.Path.{◌≡◌, refl, sym, ap, ◌∙◌}
 use Prim.Native.Nat.{ℕ, ◌+◌, ◌*◌, ◌%◌}
 use native.Mathlib.Nat.{add-mul-mod_self_right, mod-mod}
-use lib.ListN.{get_or, length, set}
+use lib.ListN.{get_or, set}
 use Rattle.std.specs.Prelude.{map}
 use Rattle.std.proofs.Math.Seq.{map-set_same}
-use Rattle.read_items.specs.Context.{PoolFits, hint_base, plain_words}
-use Rattle.read_items.specs.Laws.Context.{length_plain_words}
+use Rattle.read_items.specs.Context.{hint_base, plain_words}
 
 pub plain_words-map : (ws : List ℕ) → plain_words ws ≡ map (λ w. w % hint_base) ws
 unfolding plain_words
@@ -20,12 +19,3 @@ hinted_plain ws i hint =
     let word = get_or ws i 0 in
     let plain = add-mul-mod_self_right (word % hint_base) hint hint_base ∙ mod-mod word hint_base in
     plain_words-map _ ∙ map-set_same (λ w. w % hint_base) ws i (word % hint_base + hint * hint_base) 0 plain ∙ sym (plain_words-map ws)
-
----- tables of the same plain words
-
-module _ (a b : List ℕ) (e : plain_words a ≡ plain_words b) where
-  pub same_size : length a ≡ length b
-  same_size = sym (length_plain_words a) ∙ ap length e ∙ length_plain_words b
-
-  pub same_fits : (p : List ℕ) → PoolFits p b → PoolFits p a
-  same_fits p h = rw e h

@@ -1,7 +1,7 @@
 -- What is read after the pool, from its two parts: the outer chunk and the line index.
-use mathlib.Core.List.{List}
+use mathlib.Core.List.{List, []}
 use mathlib.Core.Option.{Option}
-use mathlib.Core.Path.{◌≡◌, refl, sym, ap, ◌∙◌}
+use mathlib.Core.Path.{◌≡◌, refl, sym, ◌∙◌}
 use Prim.Native.Nat.{ℕ, ◌*◌, ◌/◌, ◌≤◌}
 use native.Mathlib.Omega.{arith}
 use lib.ListN.{length}
@@ -12,23 +12,28 @@ use Rattle.payload.specs.Reader.{Part, Result, ok, refused, and_then, pure, ◌>
 use Rattle.payload.specs.Reader as reader
 use Rattle.payload.specs.Reading.{Context, Payload, read_chunk, read_line_index}
 use Rattle.payload.specs.Rows.{row_width}
-use Rattle.payload.specs.Tables.{line_starts, read_answer, used_pool, used_rows, used_spans, used_starts}
+use Rattle.payload.specs.Tables.{line_starts, parts_words, read_answer, used_pool, used_rows, used_spans, used_starts}
 use Rattle.payload.specs.Trees.{LineIndex, Node}
 use Rattle.payload.specs.Answers.{Read}
 use Rattle.refusal.specs.Answer as read
-use Rattle.read_items.specs.Context.{PoolFits, context_of, plain_words}
-use Rattle.read_items.specs.Laws.Context.{length_parts_of, length_plain_words, parts_words_parts_of, same_context}
+use Rattle.read_items.specs.Context.{context_of, plain_words}
+use Rattle.read_items.specs.Laws.Context.{length_parts_of, length_plain_words, same_context}
 use Rattle.cursor.specs.Reads.{state_at, stopped}
 use Rattle.cursor.specs.declared.Cursor.{Cursor}
 use Rattle.read_lines.specs.LinesRead.{Accepted, InContext}
 use Rattle.read_lines.specs.declared.Lines.{Lines}
-use Rattle.read_values.specs.State.{start_at}
-use Rattle.read_values.specs.Did.{Fit, Ran, context, one_tree, rows_in, spans_in}
+use Rattle.read_values.specs.Did.{Ran, context, one_tree, rows_in, spans_in}
 use Rattle.payload.specs.declared.Capacities.{Capacities}
 use Rattle.read_values.specs.declared.State.{State}
-use Rattle.deserialize.specs.Script.{ScriptLeaves, pool_used, read_script}
+use Rattle.deserialize.specs.Room.{HasRoom}
+use Rattle.deserialize.specs.Script.{ScriptLeaves, read_script}
 
 ---- the definition's steps
+
+-- the words of the pool's strings that an answer uses: all, or none after a refusal
+abbrev pub pool_used : Read → List ℕ → List ℕ
+pool_used (read.accepted counts) pool = pool
+pool_used (read.refused n q) pool = []
 
 module _ (e : Context) (s : reader.State) where
   pub script_ok : {outer : Node Part} {line : Option (LineIndex Part)} {s₁ s₂ : reader.State} → read_chunk e s ≡ ok outer s₁ → read_line_index e s₁ ≡ ok line s₂
@@ -45,20 +50,42 @@ module _ (e : Context) (s : reader.State) where
   unfolding read_script ◌>>=◌ and_then
   script_no_lines f g = rw (f, g)
 
+  -- the strings that an accepted read has are those of the pool
+  pub script_pool : used_pool (read_script e s) ≡ pool_used (read_answer (read_script e s)) (parts_words e.pool)
+  unfolding read_script ◌>>=◌ and_then pure used_pool read_answer
+  script_pool = by_chunk (read_chunk e s)
+    where
+      by_lines : (outer : Node Part) (x : Result (Option (LineIndex Part))) →
+          let y : Result Payload = and_then x (λ line. pure (record { pool = e.pool; script = record { outer = outer; line = line } })) in
+          used_pool y ≡ pool_used (read_answer y) (parts_words e.pool)
+      by_lines outer (ok line z) = refl
+      by_lines outer (refused n q) = refl
+
+      by_chunk : (x : Result (Node Part)) →
+          let y : Result Payload = and_then x (λ outer z. and_then (read_line_index e z) (λ line. pure (record { pool = e.pool; script = record { outer = outer; line = line } }))) in
+          used_pool y ≡ pool_used (read_answer y) (parts_words e.pool)
+      by_chunk (ok outer z) = by_lines outer (read_line_index e z)
+      by_chunk (refused n q) = refl
+
 ---- a refusal: every word of every table is 0
 
 pub refused_leaves :
-    {x : Result Payload} {n q : ℕ} {pool rows spans starts rows' spans' starts' : List ℕ} → x ≡ refused n q →
+    {x : Result Payload} {n q : ℕ} {rows spans starts rows' spans' starts' : List ℕ} → x ≡ refused n q →
     rows' ≡ zeros (length rows) → spans' ≡ zeros (length spans) → starts' ≡ zeros (length starts) →
-    ScriptLeaves x pool rows spans starts rows' spans' starts' (read.refused n q)
-unfolding read_answer used_rows used_spans used_starts used_pool
+    ScriptLeaves x rows spans starts rows' spans' starts' (read.refused n q)
+unfolding read_answer used_rows used_spans used_starts
 refused_leaves {rows = rows} {spans} {starts} e a b c = rw e (record {
   answer = refl;
   rows_are = a ∙ sym (pad_to_nil (length rows));
   spans_are = b ∙ sym (pad_to_nil (length spans));
   starts_are = c ∙ sym (pad_to_nil (length starts));
-  strings_are = refl;
 })
+
+-- the same of tables that hold those words at the end
+pub leaves_in :
+    {x : Result Payload} {rows spans starts a b c rows' spans' starts' : List ℕ} {r : Read} → ScriptLeaves x rows spans starts a b c r →
+    rows' ≡ a → spans' ≡ b → starts' ≡ c → ScriptLeaves x rows spans starts rows' spans' starts' r
+leaves_in f a b c = rw (a, b, c) f
 
 ---- the outer chunk, then the line index
 
@@ -76,12 +103,12 @@ module _ (names : List ℕ) {capacities : Capacities} {p pool rows rows₁ spans
   no_lines_read g =
       script_no_lines (context capacities p names pool) (state_at p at 0 0) ran.is ((rw (e, at_is) at (g.reads capacities names refl).reads).is s.rows s.spans)
 
-  module _ (fit : Fit capacities p rows spans (start_at at)) (whole : length pool ≡ 2 * (length pool / 2)) (inside : PoolFits p pool) where
+  module _ {starts : List ℕ} (room : HasRoom capacities rows spans starts) where
     pub accepted_leaves :
-        {starts starts₁ rows' spans' starts' : List ℕ} {l : Lines} → capacities.starts ≤ length starts →
+        {starts₁ rows' spans' starts' : List ℕ} {l : Lines} →
         Accepted c c' pool starts starts₁ capacities.starts read_line_index l →
         rows' ≡ zero_from (row_width * s.rows) rows₁ → spans' ≡ zero_from (2 * s.spans) spans₁ → starts' ≡ zero_from l.starts starts₁ →
-        ScriptLeaves (read_script (context capacities p names pool) (state_at p at 0 0)) pool rows spans starts rows' spans' starts'
+        ScriptLeaves (read_script (context capacities p names pool) (state_at p at 0 0)) rows spans starts rows' spans' starts'
         (read.accepted
         (record {
           consumed = c'.at;
@@ -91,30 +118,21 @@ module _ (names : List ℕ) {capacities : Capacities} {p pool rows rows₁ spans
           strings = length pool / 2;
           name = l.name;
         }))
-    unfolding context_of read_answer used_rows used_spans used_starts used_pool
-    accepted_leaves {starts} {l = l} room g a b d =
+    unfolding context_of read_answer used_rows used_spans used_starts
+    accepted_leaves {l = l} g a b d =
         let lines = rw (e, at_is) at (g.is.reads capacities names refl).reads in
         rw (script_ok (context capacities p names pool) (state_at p at 0 0) ran.is (lines.is s.rows s.spans))
         (record {
           answer = rw g.name_is (cc (length_parts_of p (plain_words pool), length_plain_words pool, g.each));
-          rows_are = stored_cleared rows (rows_in one_tree outer) (row_width * s.rows) (omega (arith, ran.size)) (omega (arith, ran.used, fit.room)) ran.wrote a;
-          spans_are = stored_cleared spans (spans_in one_tree outer) (2 * s.spans) (omega (arith, ran.spanned)) (omega (arith, ran.covered, fit.cover)) ran.filled b;
+          rows_are = stored_cleared rows (rows_in one_tree outer) (row_width * s.rows) (omega (arith, ran.size)) (omega (arith, ran.used, room.rows_fit)) ran.wrote a;
+          spans_are = stored_cleared spans (spans_in one_tree outer) (2 * s.spans) (omega (arith, ran.spanned)) (omega (arith, ran.covered, room.spans_fit)) ran.filled b;
           starts_are = stored_cleared starts (line_starts g.line) _ g.each (omega (arith, g.fits)) g.stored d;
-          strings_are = parts_words_parts_of p (plain_words pool) (length pool / 2) (length_plain_words pool ∙ whole) inside;
         })
 
 ---- hints
 
 -- they make no difference
 pub same_leaves : (capacities : Capacities) (p names a b : List ℕ) (at : ℕ) {rows spans starts rows' spans' starts' : List ℕ} {r : Read} → plain_words a ≡ plain_words b
-    → ScriptLeaves (read_script (context capacities p names a) (state_at p at 0 0)) a rows spans starts rows' spans' starts' r
-    → ScriptLeaves (read_script (context capacities p names b) (state_at p at 0 0)) b rows spans starts rows' spans' starts' r
-same_leaves capacities p names a b at {r = r} e f =
-    let g = rw (same_context capacities p names a b e) at f in
-    record {
-      answer = g.answer;
-      rows_are = g.rows_are;
-      spans_are = g.spans_are;
-      starts_are = g.starts_are;
-      strings_are = g.strings_are ∙ ap (λ (l : List ℕ). pool_used r l) e;
-    }
+    → ScriptLeaves (read_script (context capacities p names a) (state_at p at 0 0)) rows spans starts rows' spans' starts' r
+    → ScriptLeaves (read_script (context capacities p names b) (state_at p at 0 0)) rows spans starts rows' spans' starts' r
+same_leaves capacities p names a b at e f = rw (same_context capacities p names a b e) at f

@@ -1,2 +1,4 @@
 pub mod Hints
+pub mod Room
 pub mod Script
+pub mod Tables

@@ -5,6 +5,7 @@
 ghost use Rattle.std.specs.Prelude.{true, ◌≡◌, ◌+◌, ◌*◌, ◌/◌, ◌≤◌, ◌<◌, length};
 ghost use Rattle.read_items.specs.Context.{PoolFits, plain_words};
 
+use cursor::Cursor;
 use read_items::HINT_BASE;
 
 // The second of the two links is below this base.
@@ -23,10 +24,10 @@ fn chain_of(string: &[u8], strings: usize) -> usize
 
 // The strings of a payload, by its pool table, in which hints and links are put.
 #[derive(Drop)]
-struct Strings<'a> {
-    bytes: &'a [u8],
-    pool: &'a mut [u64],
-    ghost fits: { PoolFits bytes.now pool.now },
+pub struct Strings<'a> {
+    pub bytes: &'a [u8],
+    pub pool: &'a mut [u64],
+    pub ghost fits: { PoolFits bytes.now pool.now },
 }
 
 impl<'a> Strings<'a> {
@@ -104,7 +105,7 @@ impl<'a> Strings<'a> {
         }
     }
 
-    // Gives the hint `end` to each string that is the name. A link leads to an earlier string, or is not followed.
+    // Gives the hint `end` to each string that is the name. A link leads to an earlier string, or is not followed; how many follow is not known, so the loop is a `while`.
     fn hint_name(&mut self, name: &[u8], end: usize)
         requires { 1 < length self.old.pool.now }
         ensures { Keeps self.old self.new }
@@ -132,11 +133,21 @@ impl<'a> Strings<'a> {
         ensures { Keeps self.old self.new }
     {
         let mut from: usize = 0;
+        // The end of each name is wanted, which `split` does not tell; what follows the last 0A is no name.
         while let Some(n) = names[from..].iter().position(|byte| *byte == b'\n') {
             let end = from + n;
             self.hint_name(&names[from..end], end);
             from = end + 1;
         }
+    }
+
+    // Adds the hints.
+    pub fn add_hints(&mut self, names: &[u8])
+        requires { (1024 ≤ length names.now) × (1 < length self.old.pool.now) }
+        ensures { Keeps self.old self.new }
+    {
+        self.link_all(longest_name(names));
+        self.hint_names(names);
     }
 }
 
@@ -195,8 +206,7 @@ fn eights(bytes: &[u8], at: usize) -> usize
 // Whether hints are likely to save more than they cost. To add them takes about 2 ns for each byte of the list and 28 ns for each string that is linked; a search takes
 // about 1/12 ns for each byte of the list. So they pay from 24 searches on where strings are few, and twice as many are asked for. Bytes 08 that are no native's are about one in a
 // hundred: either there must be more of them, or the cost must be little beside that of reading, which is about 2 ns for each byte.
-pub(crate) fn pay(names: &[u8], bytes: &[u8], pool: &[u64], at: usize) -> bool
-    requires { at ≤ length bytes.now }
+pub fn pay(names: &[u8], cursor: Cursor<'_>, pool: &[u64]) -> bool
     ensures { result ≡ true → (1024 ≤ length names.now) × (1 < length pool.now) }
 {
     if names.len() < LONG_LIST {
@@ -212,26 +222,17 @@ pub(crate) fn pay(names: &[u8], bytes: &[u8], pool: &[u64], at: usize) -> bool
     if LINK_BASE <= strings as u64 {
         return false;
     }
-    let natives = eights(bytes, at);
+    let Cursor { payload, at, .. } = cursor;
+    let natives = eights(payload, at);
     let cost = names.len() + 14 * short_strings(pool, longest_name(names));
     if natives < 48 * cost / names.len() {
         return false;
     }
-    (cost <= bytes.len() / 32) | ((bytes.len() - at) / 32 <= natives)
-}
-
-// Adds the hints.
-pub(crate) fn add(names: &[u8], bytes: &[u8], pool: &mut [u64])
-    requires { (1024 ≤ length names.now) × (1 < length pool.old) × PoolFits bytes.now pool.old }
-    ensures { plain_words pool.new ≡ plain_words pool.old }
-{
-    let mut strings = Strings { bytes, pool };
-    strings.link_all(longest_name(names));
-    strings.hint_names(names);
+    (cost <= payload.len() / 32) | ((payload.len() - at) / 32 <= natives)
 }
 
 // Takes away all that stands above the base.
-pub(crate) fn take_away(pool: &mut [u64])
+pub fn take_away(pool: &mut [u64])
     ensures { pool.new ≡ plain_words pool.old }
 {
     for word in pool {

@@ -15,6 +15,7 @@ use parts::Part;
 
 const LIMIT: usize = Program::SIZE;
 
+// A number and no `Option`, since the definition's `further` is one: the place past the limit, from which nothing leads back.
 const STOPPED: usize = LIMIT + 1;
 
 // The place n bytes further on.
@@ -133,6 +134,7 @@ impl Emitter<'_, '_> {
         ensures { Emits self.old self.new (uleb128 n) }
     {
         let mut rest = n;
+        // As in `write_uvarint`: a `for` would work out the width first.
         while 128 <= rest {
             self.byte((rest % 128 + 128) as u8);
             rest /= 128;

@@ -1,3 +1,2 @@
 pub mod HostTables
 pub mod Write
-pub mod Laws

@@ -9,43 +9,16 @@ ghost use Rattle.payload.specs.House.{house};
 ghost use Rattle.payload.specs.Tables.{capacities_of, reading};
 ghost use Rattle.host_tables.specs.HostTables.{HostRead, PutRead};
 
-use payload::{Counts, Program};
+use payload::Counts;
 use refusal::Refusal;
 
 // Puts the fields of a read or a check into the answer, and gives its number.
 fn put_read(read: Result<Counts, Refusal>, answer: &mut [u64]) -> u64
     ensures { PutRead (answer_of read) answer.old answer.new result }
 {
-    match read {
-        Ok(counts) => {
-            let Program {
-                flag,
-                name_o,
-                name_n,
-                ..
-            } = Program::from(counts);
-            answer::put_fields(
-                answer,
-                &[
-                    0,
-                    counts.consumed as u64,
-                    counts.rows as u64,
-                    counts.spans as u64,
-                    counts.starts as u64,
-                    counts.strings as u64,
-                    flag,
-                    name_o as u64,
-                    name_n as u64,
-                ],
-            );
-            0
-        }
-        Err(refusal) => {
-            let number = u64::from(refusal.reason);
-            answer::put_fields(answer, &[number, refusal.place as u64, 0, 0, 0, 0, 0, 0, 0]);
-            number
-        }
-    }
+    let fields = payload::read_fields(read);
+    answer::put_fields(answer, &fields);
+    fields[0]
 }
 
 // Reads a payload into lent tables. The fields: number, bytes consumed (or a refusal's place), rows, spans, starts, strings, line flag,

@@ -6,7 +6,12 @@ use Rattle.payload.specs.Shapes.{is_key_tag, shape}
 use Rattle.payload.specs.Tables.{limits}
 use Rattle.refusal.specs.Number.{number}
 use Rattle.refusal.specs.declared.Reason.{Reason}
+use Rattle.row_layout.specs.declared.row.Row.{Row}
 use Rattle.row_layout.specs.Under.{count_in, rows_under}
+
+-- the words of a table from a row on
+abbrev pub words_from : Row → List ℕ
+words_from row = drop (row_width * row.number) row.table.now
 
 -- a row's words stand at the front of the list
 abbrev pub tag_of : List ℕ → ℕ

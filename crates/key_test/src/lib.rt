@@ -1,12 +1,15 @@
 // The test of a key of a set or map: its tag, and the keys before it in the row table.
 #![tactic(auto)]
 
-ghost use Rattle.std.specs.Prelude.{◌≡◌, ◌+◌, ◌-◌, ◌*◌, ◌≤◌, min, length, drop, get_or};
+ghost use Rattle.std.specs.Prelude.{◌≡◌, ◌+◌, ◌-◌, ◌*◌, ◌≤◌, min, length, drop};
 ghost use Rattle.payload.specs.Rows.{row_width};
-ghost use Rattle.key_test.specs.Keys.{stands, same_string, same_key, most_rows, rows_told, seen_in, key_refusal, number_told};
+ghost use Rattle.row_layout.specs.Row.{row_word};
+ghost use Rattle.key_test.specs.Keys.{words_from, stands, same_string, same_key, most_rows, rows_told, seen_in, key_refusal, number_told};
 
 use payload::Program;
 use refusal::Reason;
+use row_layout::row::Row;
+use row_layout::tags;
 
 // A part of a byte string, which need not lie in it.
 #[derive(Clone, Copy)]
@@ -48,102 +51,89 @@ fn same_string(bytes: &[u8], one: Part, other: Part) -> bool
     )
 }
 
-// The part that the words after a row's tag name. The row begins at a word of the table.
-fn part_in_row(rows: &[u64], at: usize) -> Part
-    requires { at + row_width ≤ length rows.now }
-    ensures { result ≡ record { offset = get_or rows.now (at + 1) 0; size = get_or rows.now (at + 2) 0 } }
+// The part that the words after a row's tag name.
+fn part_in_row(row: Row<'_>) -> Part
+    ensures { result ≡ record {
+      offset = row_word row.entry.table.now row.entry.number 1;
+      size = row_word row.entry.table.now row.entry.number 2;
+    } }
 {
     Part {
-        offset: rows[at + 1],
-        size: rows[at + 2],
+        offset: row.word(1),
+        size: row.word(2),
     }
 }
 
-// Whether rows i and j hold the same key.
-fn same_key(bytes: &[u8], rows: &[u64], i: usize, j: usize) -> bool
-    requires { (row_width * i + row_width ≤ length rows.now) × (row_width * j + row_width ≤ length rows.now) }
-    ensures { result ≡ same_key bytes.now (drop (row_width * i) rows.now) (drop (row_width * j) rows.now) }
+// Whether two rows hold the same key.
+#[tactic(auto, using(std::proofs::lemmas::Bool::Decides::nat_tests, crate::proofs::KeyTest::key_at))]
+fn same_key(bytes: &[u8], row: Row<'_>, other: Row<'_>) -> bool
+    ensures { result ≡ same_key bytes.now (words_from row.entry) (words_from other.entry) }
 {
-    let key = Program::ROW_WIDTH * i;
-    let other = Program::ROW_WIDTH * j;
-    let tag = rows[key];
-    if tag != rows[other] {
+    let tag = row.tag();
+    if tag != other.tag() {
         return false;
     }
-    if tag == 6 {
-        return same_string(bytes, part_in_row(rows, key), part_in_row(rows, other));
+    if tag == tags::STRING {
+        return same_string(bytes, part_in_row(row), part_in_row(other));
     }
-    rows[key + 1] == rows[other + 1]
+    row.word(1) == other.word(1)
 }
 
+// The cap keeps the sums of `seen_in` small.
 fn capped(count: u64) -> u64
     ensures { (result ≡ min most_rows count) × (result ≤ most_rows) }
 {
     count.min(Program::ROWS as u64)
 }
 
-// How many rows row i tells right under it. The cap keeps the sums of `seen_in` small.
-// By tests of the tag: the search of a large map spends its time here, and a table of `row_layout` costs it a fifth more.
-fn rows_told(rows: &[u64], i: usize) -> u64
-    requires { row_width * i + row_width ≤ length rows.now }
-    ensures { (result ≡ rows_told (drop (row_width * i) rows.now)) × (result ≤ 2 * most_rows) }
+// How many rows a row tells right under it.
+// By a match on the tag: the search of a large map spends its time here, and a table of `row_layout` costs it a fifth more. The frequent low tags have guards, which
+// are tested in this order: a range would be tested after the single tags, which costs a map of arrays twice as much.
+#[tactic(auto, using(crate::proofs::KeyTest::told))]
+fn rows_told(row: Row<'_>) -> u64
+    ensures told { result ≡ rows_told (words_from row.entry) }
+    ensures bound { result ≤ 2 * most_rows }
 {
-    let at = Program::ROW_WIDTH * i;
-    let tag = rows[at];
-    if tag < 7 {
-        return 0;
+    let tag = row.tag();
+    match tag {
+        _ if tag < tags::FUNCTION => 0,
+        // Function, Ok, Err and Error; 8 is a native.
+        _ if tag < 12 => u64::from(tag != 8),
+        // Array, tuple, set, and then map.
+        _ if tag < 15 => capped(row.word(1)),
+        15 => 2 * capped(row.word(1)),
+        tags::RECORD | tags::CHUNK => capped(row.word(3)),
+        tags::CLOSURE => 1 + capped(row.word(2)),
+        tags::FIELD => 1,
+        _ => 0,
     }
-    if tag == 7 {
-        return 1;
-    }
-    if tag == 8 {
-        return 0;
-    }
-    if tag < 12 {
-        return 1;
-    }
-    if tag < 15 {
-        return capped(rows[at + 1]);
-    }
-    if tag == 15 {
-        return 2 * capped(rows[at + 1]);
-    }
-    if tag == 16 {
-        return capped(rows[at + 3]);
-    }
-    if tag == 18 {
-        return 1 + capped(rows[at + 2]);
-    }
-    if tag == 32 {
-        return capped(rows[at + 3]);
-    }
-    if tag == 33 {
-        return 1;
-    }
-    0
 }
 
 // Whether the key in row `own` equals one of the keys in the rows from `first` on: `gap` rows, with what is under them, stand between two keys.
-fn seen_in(bytes: &[u8], rows: &[u64], first: usize, own: usize, gap: u64) -> bool
-    requires { (row_width * own + row_width ≤ length rows.now) × (first ≤ own) × (own ≤ most_rows) × (gap ≤ 1) }
-    ensures { result ≡ seen_in bytes.now (drop (row_width * own) rows.now) gap 0 (own - first) (drop (row_width * first) rows.now) }
+fn seen_in(bytes: &[u8], first: usize, own: Row<'_>, gap: u64) -> bool
+    requires { (first ≤ own.number) × (own.number ≤ most_rows) × (gap ≤ 1) }
+    ensures { result ≡ seen_in bytes.now (words_from own.entry) gap 0 (own.entry.number - first) (drop (row_width * first) own.entry.table.now) }
 {
     let mut skip: u64 = 0;
-    for i in first..own {
+    for number in first..own.number {
+        let row = Row {
+            table: own.table,
+            number,
+        };
         if skip == 0 {
-            if same_key(bytes, rows, own, i) {
+            if same_key(bytes, own, row) {
                 return true;
             }
             skip = gap;
         } else {
-            skip = skip - 1 + rows_told(rows, i);
+            skip = skip - 1 + rows_told(row);
         }
     }
     false
 }
 
 // Whether the key in row `own` of a set or map whose rows begin at `first` is one that may stand there, and none of the keys before it.
-#[tactic(auto, using(std::proofs::lemmas::Bool::Decides::nat_tests, crate::proofs::KeyTest::at_zero), unfolding(crate::specs::Keys::key_refusal))]
+#[tactic(auto, using(std::proofs::lemmas::Bool::Decides::nat_tests, crate::proofs::KeyTest::tag_in_row), unfolding(crate::specs::Keys::key_refusal))]
 pub fn test_key(
     bytes: &[u8],
     rows: &[u64],
@@ -154,10 +144,14 @@ pub fn test_key(
     requires { (row_width * own + row_width ≤ length rows.now) × (first ≤ own) × (own ≤ most_rows) × (gap ≤ 1) }
     ensures { number_told result ≡ key_refusal bytes.now rows.now gap first own }
 {
-    if !row_layout::is_key_tag(rows[Program::ROW_WIDTH * own]) {
+    let row = Row {
+        table: rows,
+        number: own,
+    };
+    if !row_layout::is_key_tag(row.tag()) {
         return Err(Reason::ForbiddenKey);
     }
-    if seen_in(bytes, rows, first, own, gap) {
+    if seen_in(bytes, first, row, gap) {
         return Err(Reason::RepeatedKey);
     }
     Ok(())

@@ -88,7 +88,7 @@ fn rising_blocks(starts: &[u32]) -> usize
     ensures upper_bound { result < length starts.now }
     ensures rises { Rises starts.now 0 result }
 {
-    // `while`: a block that does not rise ends the loop, and the index where it ends is the answer, which a `for` over steps of 32 would not keep.
+    // Where the steps end is the answer: a `for` by `step_by(32)` would say it inside the loop and behind it.
     let mut i = 0;
     while 32 < starts.len() - i && block_rises(starts, i) {
         i += 32;

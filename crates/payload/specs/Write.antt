@@ -1,5 +1,5 @@
 -- A write's answer, and what it leaves in the output and in the pool table.
-use Rattle.std.specs.Prelude.{Bool, false, true, List, [], ◌++◌, ◌∷◌, ◌≡◌, ◌*◌, ◌+◌, suc, ℕ, eqb, leb, ltb, drop, length, take}
+use Rattle.std.specs.Prelude.{Bool, false, true, List, [], ◌++◌, ◌∷◌, ◌≡◌, ◌*◌, ◌+◌, suc, ℕ, eqb, leb, ltb, drop, get_or, length, take}
 use Rattle.slices.specs.Same.{same}
 use Rattle.slices.specs.Zeros.{pad_to}
 use Rattle.payload.specs.Answers.{written_fields}
@@ -15,6 +15,17 @@ use Rattle.payload.specs.Writing.{gathered, pool_of, writing}
 use Rattle.payload.specs.declared.Program.{Program}
 use Rattle.payload.specs.Answers.{Written}
 use Rattle.refusal.specs.Answer as write
+
+-- the program record by its words: rows, spans, starts, line flag, and the name's offset and length; a missing word is 0, as in the empty program
+abbrev pub program_of_words : List ℕ → Program
+program_of_words words = record {
+  rows = get_or words 0 0;
+  spans = get_or words 1 0;
+  starts = get_or words 2 0;
+  flag = get_or words 3 0;
+  name_o = get_or words 4 0;
+  name_n = get_or words 5 0;
+}
 
 -- the program that lent tables hold: their used words
 unfoldable pub held_tables : List ℕ → Program → List ℕ → List ℕ → List ℕ → Tables

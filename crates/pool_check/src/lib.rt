@@ -1,7 +1,7 @@
 // Tests of a pool that was read: whether its strings are first used in its order, and whether they differ.
 #![tactic(auto)]
 
-ghost use Rattle.std.specs.Prelude.{◌≡◌, ◌++◌, ◌+◌, ◌/◌, ◌≤◌, length, drop};
+ghost use Rattle.std.specs.Prelude.{◌≡◌, ◌++◌, ◌*◌, ◌/◌, ◌≤◌, length, drop};
 ghost use Rattle.payload.specs.Rows.{row_width};
 ghost use Rattle.pool_index.specs.Strings.{pool_strings, distinct};
 ghost use Rattle.gather.specs.Gather.{row_parts, rows_parts, name_parts};
@@ -11,6 +11,7 @@ ghost use Rattle.pool_check.specs.Distinct.{PartsIn, LinkedFirst};
 
 use gather::Place;
 use payload::{Program, Tables};
+use row_layout::row::Row;
 use std::cmp::Ordering;
 
 // ---- the order of first use: how many entries are met, or none where one comes too early
@@ -35,12 +36,12 @@ fn meet_string(at: Option<Place>, store: &[u8], pool: &[u64], met: usize) -> Opt
     }
 }
 
-// After the row whose words begin at a place.
-fn meet_row(store: &[u8], rows: &[u64], at: usize, pool: &[u64], met: usize) -> Option<usize>
-    requires { (met ≤ length pool.now / 2) × (at + row_width ≤ length rows.now) }
-    ensures { Meets pool.now met (row_parts store.now (drop at rows.now)) result }
+// After a row.
+fn meet_row(store: &[u8], row: Row<'_>, pool: &[u64], met: usize) -> Option<usize>
+    requires { met ≤ length pool.now / 2 }
+    ensures { Meets pool.now met (row_parts store.now (drop (row_width * row.entry.number) row.entry.table.now)) result }
 {
-    let places = gather::row_places(rows, at);
+    let places = gather::row_places(row);
     let first = meet_string(places.first, store, pool, met)?;
     meet_string(places.second, store, pool, first)
 }
@@ -51,7 +52,11 @@ fn meet_rows(store: &[u8], rows: &[u64], pool: &[u64]) -> Option<usize>
 {
     let mut met: usize = 0;
     for i in 0..rows.len() / Program::ROW_WIDTH {
-        met = meet_row(store, rows, Program::ROW_WIDTH * i, pool, met)?;
+        let row = Row {
+            table: rows,
+            number: i,
+        };
+        met = meet_row(store, row, pool, met)?;
     }
     Some(met)
 }

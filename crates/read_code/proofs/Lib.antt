@@ -1,3 +1,4 @@
+pub mod OneRun
 pub mod Short
 pub mod SpanTable
 pub mod Runs

@@ -56,12 +56,10 @@ fn read_run_long(cursor: &mut Cursor<'_>, before: Run) -> Result<Run, Refusal>
 fn is_short_run(cursor: &Cursor<'_>) -> bool
     ensures { result ≡ true → ShortRun cursor.now.payload.now cursor.now.at }
 {
-    let at = cursor.at;
-    let bytes = cursor.payload;
-    if bytes.len() - at < 3 {
+    let [start, end, count, ..] = &cursor.payload[cursor.at..] else {
         return false;
-    }
-    (bytes[at] < 128) & (bytes[at + 1] < 128) & (bytes[at + 2] < 128)
+    };
+    (*start < 128) & (*end < 128) & (*count < 128)
 }
 
 // The position that a delta of one byte leads to from an old one.
@@ -84,14 +82,18 @@ fn read_short_run(cursor: &mut Cursor<'_>, before: Run) -> Result<Run, Refusal>
     Ok(Run { start, end, count })
 }
 
-// Most numbers have one byte: the short run is inlined into the loop over the runs, and any other is a call.
+// Most numbers have one byte: the short run is inlined into the loop over the runs, and any other is a call. The call has a cursor of its own, so that the loop's is not
+// kept in memory, where every short run would have to store it.
 fn read_run(cursor: &mut Cursor<'_>, before: Run) -> Result<Run, Refusal>
     ensures { Advances cursor.old cursor.new (run_after before) (answer_of result cursor.new.at) }
 {
     if is_short_run(cursor) {
         return read_short_run(cursor, before);
     }
-    read_run_long(cursor, before)
+    let mut here = *cursor;
+    let run = read_run_long(&mut here, before)?;
+    cursor.at = here.at;
+    Ok(run)
 }
 
 // Stores a span as span number k.
@@ -152,6 +154,7 @@ fn read_runs(
     ensures { RunsRead cursor.old cursor.new spans.old spans.new used size count result }
 {
     let stop = used + size;
+    let mut here = *cursor;
     let mut from = used;
     let mut run = Run {
         start: 0,
@@ -159,18 +162,20 @@ fn read_runs(
         count: 0,
     };
     for k in 0..count {
-        run = read_run(cursor, run)?;
+        run = read_run(&mut here, run)?;
         if ((stop - from) as u64) < run.count {
-            pass_runs(cursor, count - (k + 1), run)?;
-            return Err(Reason::WrongRunCounts.at(cursor.at));
+            let mut rest = here;
+            pass_runs(&mut rest, count - (k + 1), run)?;
+            return Err(Reason::WrongRunCounts.at(rest.at));
         }
         let n = run.count as usize;
         fill(spans, from, n, run.span());
         from += n;
     }
     if from < stop {
-        return Err(Reason::WrongRunCounts.at(cursor.at));
+        return Err(Reason::WrongRunCounts.at(here.at));
     }
+    cursor.at = here.at;
     Ok(())
 }
 

@@ -75,7 +75,7 @@ pub record ReadsNamed (c c' : Cursor) (pool : List ℕ) (r : Result (Extent × �
       → Advances c c' (read_named (context_of cs c.payload.now names pool)) (answer_by (λ x. (part_in c.payload.now x.0, x.1)) r c'.at)
   pub inside : IfOk r (λ x. x.0.offset + x.0.length ≤ length c.payload.now)
 
----- heads of two words, of a count alone, of a part and a count of what follows it
+---- heads of two words, of a count alone, of a part and a count of what follows it, of a name and a number and such a count
 
 abbrev pub two_words : ℕ → ℕ → Head
 two_words a b = record { a = a; b = b; c = 0; d = 0; count = 0 }
@@ -85,3 +85,6 @@ count_head n = record { a = n; b = 0; c = 0; d = 0; count = n }
 
 abbrev pub part_head : Extent → ℕ → Head
 part_head x n = record { a = x.offset; b = x.length; c = 0; d = 0; count = n }
+
+abbrev pub named_head : Extent → ℕ → ℕ → Head
+named_head x c n = record { a = x.offset; b = x.length; c = c; d = 0; count = n }

@@ -3,15 +3,16 @@
 
 ghost use Rattle.std.specs.Prelude.{◌≡◌, List, ℕ, ◌≤◌};
 ghost use Rattle.payload.specs.Shapes.{shape};
-ghost use Rattle.read_items.specs.Context.{PoolFits};
+ghost use Rattle.read_items.specs.Over.{ReadsOver};
 ghost use Rattle.read_heads.specs.Class.{shape_of};
 ghost use Rattle.scalar.specs.Scalar.{const_of, row, row_of};
 ghost use Rattle.read_heads.specs.Scalars.{scalar_tag};
-ghost use Rattle.read_heads.specs.Heads.{ReadsHead, ReadsNamed, count_head, part_head, two_words};
+ghost use Rattle.read_heads.specs.Heads.{ReadsHead, ReadsNamed, count_head, named_head, part_head, two_words};
 
 use cursor::Cursor;
 use payload::Extent;
-use read_items::{Cut, HINT_BASE, items, numbers};
+use read_items::items::{self, Items};
+use read_items::{Cut, HINT_BASE, numbers};
 use refusal::{Reason, Refusal};
 
 // Rows that are read alike.
@@ -113,6 +114,16 @@ impl Head {
             ..Head::of_words(part.offset as u64, part.length as u64)
         }
     }
+
+    // A name, the number after it, and a count of what follows them.
+    fn of_named(name: Extent, number: u64, count: u64) -> Head
+        ensures { result ≡ named_head name number count }
+    {
+        Head {
+            c: number,
+            ..Head::of_part(name, count)
+        }
+    }
 }
 
 // A scalar: its words become one of the fourteen cases, and the case gives the row's words, bit by bit.
@@ -142,61 +153,35 @@ fn cut_head(cut: Cut, word: u64) -> Head
 }
 
 // A native's name, which must be in the list. Its entry's first word may have a hint where it ends there.
-fn read_native_head(cursor: &mut Cursor<'_>, names: &[u8], pool: &[u64]) -> Result<Head, Refusal>
-    requires { PoolFits cursor.old.payload.now pool.now }
-    ensures { ReadsHead cursor.old cursor.new names.now pool.now (shape_of Class.Native) result }
+fn read_native_head(items: &mut Items<'_>, names: &[u8]) -> Result<Head, Refusal>
+    ensures { ReadsOver items.old items.new (λ c c' pool. ReadsHead c c' names.now pool (shape_of Class.Native) result) }
 {
-    let at = cursor.at;
-    let k = 2 * items::read_index(cursor, pool)?;
+    let at = items.cursor.at;
+    let pool = items.pool;
+    let k = 2 * items::read_index(&mut items.cursor, pool)?;
     let o = pool[k] % HINT_BASE;
     let n = pool[k + 1] % HINT_BASE;
-    if native_names::is_listed(names, cursor.payload, o, n, pool[k] / HINT_BASE) {
+    if native_names::is_listed(names, items.cursor.payload, o, n, pool[k] / HINT_BASE) {
         return Ok(Head::of_words(o, n));
     }
     Err(Reason::UnlistedNative.at(at))
 }
 
-// A name, and the number after it.
-fn read_named(cursor: &mut Cursor<'_>, pool: &[u64]) -> Result<(Extent, u64), Refusal>
-    requires { PoolFits cursor.old.payload.now pool.now }
-    ensures { ReadsNamed cursor.old cursor.new pool.now result }
+// A name, and the number after it: a function's arity, or the count of a record's fields.
+fn read_named(items: &mut Items<'_>) -> Result<(Extent, u64), Refusal>
+    ensures { ReadsOver items.old items.new (λ c c' pool. ReadsNamed c c' pool result) }
 {
-    let name = items::read_pool_index(cursor, pool)?;
-    let number = cursor.uvarint()?;
+    let name = items.string()?;
+    let number = items.cursor.uvarint()?;
     Ok((name, number))
 }
 
-// A function's name and arity. One chunk row follows.
-fn read_function_head(cursor: &mut Cursor<'_>, pool: &[u64]) -> Result<Head, Refusal>
-    requires { PoolFits cursor.old.payload.now pool.now }
-    ensures { (names : List ℕ) → ReadsHead cursor.old cursor.new names pool.now (shape_of Class.Function) result }
-{
-    let (name, arity) = read_named(cursor, pool)?;
-    Ok(Head {
-        c: arity,
-        ..Head::of_part(name, 1)
-    })
-}
-
-// A record's name and the count of its fields.
-fn read_record_head(cursor: &mut Cursor<'_>, pool: &[u64]) -> Result<Head, Refusal>
-    requires { PoolFits cursor.old.payload.now pool.now }
-    ensures { (names : List ℕ) → ReadsHead cursor.old cursor.new names pool.now (shape_of Class.Record) result }
-{
-    let (name, count) = read_named(cursor, pool)?;
-    Ok(Head {
-        c: count,
-        ..Head::of_part(name, count)
-    })
-}
-
 // A tag's name and variant.
-fn read_tag_head(cursor: &mut Cursor<'_>, pool: &[u64]) -> Result<Head, Refusal>
-    requires { PoolFits cursor.old.payload.now pool.now }
-    ensures { (names : List ℕ) → ReadsHead cursor.old cursor.new names pool.now (shape_of Class.Tag) result }
+fn read_tag_head(items: &mut Items<'_>) -> Result<Head, Refusal>
+    ensures { (names : List ℕ) → ReadsOver items.old items.new (λ c c' pool. ReadsHead c c' names pool (shape_of Class.Tag) result) }
 {
-    let name = items::read_pool_index(cursor, pool)?;
-    let variant = items::read_pool_index(cursor, pool)?;
+    let name = items.string()?;
+    let variant = items.string()?;
     Ok(Head {
         c: variant.offset as u64,
         d: variant.length as u64,
@@ -226,42 +211,41 @@ fn read_handle_head(cursor: &mut Cursor<'_>) -> Result<Head, Refusal>
 }
 
 // A field's name. One value follows.
-pub fn read_field_head(cursor: &mut Cursor<'_>, pool: &[u64]) -> Result<Head, Refusal>
-    requires { PoolFits cursor.old.payload.now pool.now }
-    ensures { (names : List ℕ) → ReadsHead cursor.old cursor.new names pool.now (shape 33) result }
+pub fn read_field_head(items: &mut Items<'_>) -> Result<Head, Refusal>
+    ensures { (names : List ℕ) → ReadsOver items.old items.new (λ c c' pool. ReadsHead c c' names pool (shape 33) result) }
 {
-    Ok(Head::of_part(items::read_pool_index(cursor, pool)?, 1))
+    Ok(Head::of_part(items.string()?, 1))
 }
 
 // The head of a value's row.
-pub fn read_head(
-    class: Class,
-    cursor: &mut Cursor<'_>,
-    names: &[u8],
-    pool: &[u64],
-) -> Result<Head, Refusal>
-    requires { PoolFits cursor.old.payload.now pool.now }
-    ensures { ReadsHead cursor.old cursor.new names.now pool.now (shape_of class) result }
+pub fn read_head(class: Class, items: &mut Items<'_>, names: &[u8]) -> Result<Head, Refusal>
+    ensures { ReadsOver items.old items.new (λ c c' pool. ReadsHead c c' names.now pool (shape_of class) result) }
 {
     match class {
         Class::Empty => Ok(scalar_head(0, 0, 0)),
-        Class::Varint(cut) => Ok(cut_head(cut, numbers::read_cut(cut, cursor)?)),
-        Class::Byte => Ok(scalar_head(4, u64::from(cursor.byte()?), 0)),
-        Class::Bool => Ok(scalar_head(3, numbers::read_bool(cursor)?, 0)),
-        Class::Char => Ok(scalar_head(5, numbers::read_char(cursor)?, 0)),
-        Class::Float => Ok(scalar_head(2, numbers::read_float::<8>(cursor)?, 0)),
-        Class::SFloat => Ok(scalar_head(25, numbers::read_float::<4>(cursor)?, 0)),
-        Class::Str => Ok(Head::of_part(items::read_pool_index(cursor, pool)?, 0)),
-        Class::Native => read_native_head(cursor, names, pool),
-        Class::Function => read_function_head(cursor, pool),
+        Class::Varint(cut) => Ok(cut_head(cut, numbers::read_cut(cut, &mut items.cursor)?)),
+        Class::Byte => Ok(scalar_head(4, u64::from(items.cursor.byte()?), 0)),
+        Class::Bool => Ok(scalar_head(3, numbers::read_bool(&mut items.cursor)?, 0)),
+        Class::Char => Ok(scalar_head(5, numbers::read_char(&mut items.cursor)?, 0)),
+        Class::Float => Ok(scalar_head(2, numbers::read_float::<8>(&mut items.cursor)?, 0)),
+        Class::SFloat => Ok(scalar_head(25, numbers::read_float::<4>(&mut items.cursor)?, 0)),
+        Class::Str => Ok(Head::of_part(items.string()?, 0)),
+        Class::Native => read_native_head(items, names),
+        Class::Function => {
+            let (name, arity) = read_named(items)?;
+            Ok(Head::of_named(name, arity, 1))
+        }
         Class::OneValue => Ok(Head {
             count: 1,
             ..Head::default()
         }),
-        Class::Values | Class::Keys | Class::Pairs => Ok(Head::of_count(cursor.uvarint()?)),
-        Class::Record => read_record_head(cursor, pool),
-        Class::Tag => read_tag_head(cursor, pool),
-        Class::Closure => read_closure_head(cursor),
-        Class::Handle => read_handle_head(cursor),
+        Class::Values | Class::Keys | Class::Pairs => Ok(Head::of_count(items.cursor.uvarint()?)),
+        Class::Record => {
+            let (name, count) = read_named(items)?;
+            Ok(Head::of_named(name, count, count))
+        }
+        Class::Tag => read_tag_head(items),
+        Class::Closure => read_closure_head(&mut items.cursor),
+        Class::Handle => read_handle_head(&mut items.cursor),
     }
 }

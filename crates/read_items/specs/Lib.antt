@@ -1,3 +1,4 @@
 pub mod Context
 pub mod Numbers
+pub mod Over
 pub mod Laws

@@ -1,5 +1,5 @@
 // A pool index, and the string that it names.
-ghost use Rattle.read_items.specs.Context.{PoolFits, ReadsIndex, ReadsPart};
+ghost use Rattle.read_items.specs.Context.{PoolFits, ReadsIndex};
 
 use crate::HINT_BASE;
 use cursor::Cursor;
@@ -18,14 +18,26 @@ pub fn read_index(cursor: &mut Cursor<'_>, pool: &[u64]) -> Result<usize, Refusa
     Err(Reason::IndexAbovePool.at(at))
 }
 
-// The string that a pool index names.
-pub fn read_pool_index(cursor: &mut Cursor<'_>, pool: &[u64]) -> Result<Extent, Refusal>
-    requires { PoolFits cursor.old.payload.now pool.now }
-    ensures { ReadsPart cursor.old cursor.new pool.now result }
-{
-    let k = 2 * read_index(cursor, pool)?;
-    Ok(Extent {
-        offset: (pool[k] % HINT_BASE) as usize,
-        length: (pool[k + 1] % HINT_BASE) as usize,
-    })
+// A payload whose pool was read: the cursor in it, and the pool table, whose strings lie in the payload.
+#[derive(Clone, Copy)]
+pub struct Items<'a> {
+    pub cursor: Cursor<'a>,
+    pub pool: &'a [u64],
+    pub ghost pool_fits: { PoolFits cursor.payload.now pool.now },
+}
+
+impl Items<'_> {
+    ghost use Rattle.read_items.specs.Context.{ReadsPart};
+    ghost use Rattle.read_items.specs.Over.{ReadsOver};
+
+    // The string that a pool index names.
+    pub fn string(&mut self) -> Result<Extent, Refusal>
+        ensures { ReadsOver self.old self.new (λ c c' pool. ReadsPart c c' pool result) }
+    {
+        let k = 2 * read_index(&mut self.cursor, self.pool)?;
+        Ok(Extent {
+            offset: (self.pool[k] % HINT_BASE) as usize,
+            length: (self.pool[k + 1] % HINT_BASE) as usize,
+        })
+    }
 }

@@ -14,6 +14,8 @@ use Rattle.cursor.specs.Reads.{Answer, read, stopped}
 use Rattle.cursor.specs.Advances.{Advances}
 use Rattle.cursor.specs.declared.Cursor.{Cursor}
 use Rattle.read_items.specs.Context.{context_of}
+use Rattle.read_items.specs.Over.{ReadsOver}
+use Rattle.read_items.specs.declared.items.Items.{Items}
 use Rattle.read_lines.specs.declared.Lines.{Lines}
 
 -- the answer is what a cursor at c reads, whatever names are listed and whatever room there is for all but starts
@@ -36,6 +38,10 @@ Outcome c c' pool table table' most reader (Err e) = InContext c c' pool most re
 -- r is what a cursor at c reads by the definition's reader; nothing is said of the table after a refusal
 pub record LinesFilled (c c' : Cursor) (pool table table' : List ℕ) (most : ℕ) (reader : Context → Reader (Option (LineIndex Part))) (r : Result Lines Refusal) : Type 0 where
   pub outcome : Outcome c c' pool table table' most reader r
+
+-- the same of the items of a payload, where the table holds as many starts as it has words
+abbrev pub FillsOver : Items → Items → List ℕ → List ℕ → (Context → Reader (Option (LineIndex Part))) → Result Lines Refusal → Type 0
+FillsOver s s' table table' reader r = ReadsOver s s' (λ c c' pool. LinesFilled c c' pool table table' (length table) reader r)
 
 abbrev pub Cleared : List ℕ → List ℕ → Result Lines Refusal → Type 0
 Cleared table table' (Ok l) = Unit {0}

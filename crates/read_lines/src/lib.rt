@@ -3,13 +3,14 @@
 
 ghost use Rattle.std.specs.Prelude.{◌≤◌, length};
 ghost use Rattle.payload.specs.Reading.{read_flagged, read_line_index};
-ghost use Rattle.read_items.specs.Context.{PoolFits};
-ghost use Rattle.read_lines.specs.LinesRead.{LinesFilled, LinesRead};
+ghost use Rattle.read_items.specs.Over.{ReadsOver};
+ghost use Rattle.read_lines.specs.LinesRead.{FillsOver, LinesRead};
 ghost use Rattle.read_lines.specs.Starts.{StartsRead};
 
 use cursor::Cursor;
 use payload::Extent;
-use read_items::{items, positions};
+use read_items::items::Items;
+use read_items::positions;
 use refusal::{Reason, Refusal};
 
 // A line index that was read: its name and the count of its starts. Without a name there is none, and the line flag is 0.
@@ -19,16 +20,11 @@ pub struct Lines {
     pub starts: usize,
 }
 
-// The starts, of which the table holds at most `most`. Their sum is kept uncut; a start is stored modulo 2^32.
-fn read_starts(
-    cursor: &mut Cursor<'_>,
-    starts: &mut [u32],
-    most: usize,
-    count: usize,
-) -> Result<usize, Refusal>
-    requires { most ≤ length starts.old }
-    ensures { StartsRead cursor.old cursor.new starts.old starts.new most count result }
+// The starts, of which the table holds as many as it has words. Their sum is kept uncut; a start is stored modulo 2^32.
+fn read_starts(cursor: &mut Cursor<'_>, starts: &mut [u32], count: usize) -> Result<usize, Refusal>
+    ensures { StartsRead cursor.old cursor.new starts.old starts.new (length starts.old) count result }
 {
+    let most = starts.len();
     let mut sum: i64 = 0;
     for k in 0..count {
         if most <= k {
@@ -41,55 +37,42 @@ fn read_starts(
 }
 
 // What stands after a flag of 1: the name and the starts.
-fn read_flagged(
-    cursor: &mut Cursor<'_>,
-    pool: &[u64],
-    starts: &mut [u32],
-    most: usize,
-) -> Result<Lines, Refusal>
-    requires { (most ≤ length starts.old) × PoolFits cursor.old.payload.now pool.now }
-    ensures { LinesFilled cursor.old cursor.new pool.now starts.old starts.new most (λ e. read_flagged e 1) result }
+fn read_flagged(items: &mut Items<'_>, starts: &mut [u32]) -> Result<Lines, Refusal>
+    ensures { FillsOver items.old items.new starts.old starts.new (λ e. read_flagged e 1) result }
 {
-    let name = items::read_pool_index(cursor, pool)?;
-    let count = cursor.uvarint()? as usize;
+    let name = items.string()?;
+    let count = items.cursor.uvarint()? as usize;
     Ok(Lines {
         name: Some(name),
-        starts: read_starts(cursor, starts, most, count)?,
+        starts: read_starts(&mut items.cursor, starts, count)?,
     })
 }
 
 // The line index, its starts into the table from its begin on. A refusal leaves in it the starts before.
-fn fill_starts(
-    cursor: &mut Cursor<'_>,
-    pool: &[u64],
-    starts: &mut [u32],
-    most: usize,
-) -> Result<Lines, Refusal>
-    requires { (most ≤ length starts.old) × PoolFits cursor.old.payload.now pool.now }
-    ensures { LinesFilled cursor.old cursor.new pool.now starts.old starts.new most read_line_index result }
+fn fill_starts(items: &mut Items<'_>, starts: &mut [u32]) -> Result<Lines, Refusal>
+    ensures { FillsOver items.old items.new starts.old starts.new read_line_index result }
 {
-    let at = cursor.at;
-    match cursor.byte()? {
+    let at = items.cursor.at;
+    match items.cursor.byte()? {
         0 => Ok(Lines {
             name: None,
             starts: 0,
         }),
-        1 => read_flagged(cursor, pool, starts, most),
+        1 => read_flagged(items, starts),
         _ => Err(Reason::WrongLineFlag.at(at)),
     }
 }
 
 // Reads the line index, whose starts go into a table that holds at most `most`. A refusal leaves zeros in the table.
 pub fn read_line_index(
-    cursor: &mut Cursor<'_>,
-    pool: &[u64],
+    items: &mut Items<'_>,
     starts: &mut [u32],
     most: usize,
 ) -> Result<Lines, Refusal>
-    requires { (most ≤ length starts.old) × PoolFits cursor.old.payload.now pool.now }
-    ensures { LinesRead cursor.old cursor.new pool.now starts.old starts.new most result }
+    requires { most ≤ length starts.old }
+    ensures { ReadsOver items.old items.new (λ c c' pool. LinesRead c c' pool starts.old starts.new most result) }
 {
-    let lines = fill_starts(cursor, pool, starts, most);
+    let lines = fill_starts(items, &mut starts[..most]);
     if lines.is_err() {
         starts.fill(0);
     }

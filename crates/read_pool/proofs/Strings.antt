@@ -1,10 +1,12 @@
 -- Strings read one after another, with their offsets and lengths in the table.
-use Rattle.std.specs.Prelude.{List, [], ◌∷◌, ◌++◌, ◌≡◌, refl, ℕ, suc, ◌+◌, ◌*◌, ◌-◌, ◌≤◌, ◌<◌, length, set, take, Result, Ok, Err}
-use Rattle.std.proofs.Common.{sym, ◌∙◌, subst, arith, le-ltb, lt-ltb, length-append, length-set}
+use Rattle.std.specs.Prelude.{List, [], ◌∷◌, ◌++◌, ◌≡◌, refl, ℕ, suc, ◌+◌, ◌*◌, ◌-◌, ◌/◌, ◌≤◌, ◌<◌, length, set, take, drop, Result, Ok, Err}
+use Rattle.std.proofs.Common.{sym, ◌∙◌, subst, arith, le-ltb, lt-ltb, length-append, length-set, length-take-le}
+use Rattle.std.proofs.lemmas.List.{take-append-le}
 use Rattle.std.proofs.Math.Numerals.{add-one}
 use Rattle.slices.specs.Put.{put}
 use Rattle.slices.specs.Laws.Put.{put_none}
 use Rattle.refusal.specs.declared.Refusal.{Refusal}
+use Rattle.payload.specs.Laws.Tables.{length_parts_words}
 use Rattle.payload.specs.Numbers.{varint}
 use Rattle.payload.specs.Reader.{Part}
 use Rattle.payload.specs.Reading.{read_pool, read_string, read_strings}
@@ -16,6 +18,7 @@ use Rattle.cursor.specs.Laws.Advances.{then_reads}
 use Rattle.cursor.specs.Laws.Reads.{reads_pure, reads_then, reads_stop, reads_here, reads_must, reads_must_not}
 use Rattle.cursor.specs.Laws.Sofar.{after, Sofar, in_front, sofar_none, sofar_more, sofar_stop, sofar_all}
 use Rattle.read_items.specs.Laws.Context.{length_part}
+use Rattle.read_items.specs.Laws.Front.{put_front}
 use Rattle.read_pool.specs.PoolRead.{PoolFilled}
 use Rattle.read_pool.specs.Strings.{Stored, StringsRead}
 use Rattle.read_pool.specs.Laws.PoolTable.{part_more, AllIn, part_in_lem, all_in_last, strings_of_words, words_fit_lem, words_stored}
@@ -126,3 +129,32 @@ module _ {c c' c'' : Cursor} {table table' : List ℕ} {most count : ℕ} (g : A
         };
       }
   pool_read {r = Err e} h f = record { outcome = then_reads _ g f.outcome }
+
+---- a table of which the front part was lent, with room for as many strings as are read at most
+
+module _ (table part : List ℕ) {most : ℕ} (room : 2 * most ≤ length table) (same : length part ≡ length (take (2 * most) table)) where
+  pub front_filled :
+      {c c' : Cursor} {r : Result ℕ Refusal} → PoolFilled c c' (take (2 * most) table) part (length (take (2 * most) table) / 2) r →
+      PoolFilled c c' table (part ++ drop (2 * most) table) most r
+  front_filled {c} {c'} {r} f = whole r (rw half at f)
+    where
+      half : length (take (2 * most) table) / 2 ≡ most
+      half = omega (arith, length-take-le (2 * most) table room)
+
+      whole : (r : Result ℕ Refusal) → PoolFilled c c' (take (2 * most) table) part most r → PoolFilled c c' table (part ++ drop (2 * most) table) most r
+      whole (Ok n) f =
+          let a = f.outcome in
+          let words : take (2 * n) (part ++ drop (2 * most) table) ≡ take (2 * n) part =
+          take-append-le (2 * n) part (drop (2 * most) table) (omega (arith, a.fits, same, length-take-le (2 * most) table room)) in
+          record {
+            outcome = record {
+              parts = a.parts;
+              is = a.is;
+              each = a.each;
+              stored = rw a.stored (put_front (2 * most) table (parts_words a.parts) (omega (arith, a.fits, a.each, length_parts_words a.parts)) room);
+              fits = a.fits;
+              strings = rw words a.strings;
+              strings_inside = rw words a.strings_inside;
+            };
+          }
+      whole (Err e) f = record { outcome = f.outcome }

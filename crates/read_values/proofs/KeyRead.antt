@@ -15,16 +15,14 @@ use Rattle.payload.specs.Numbers.{cut_to, read_number, varint}
 use Rattle.payload.specs.Reader.{Part, Reader, ◌>>=◌, ◌>>◌, and_then, byte, here, must, new_row, ok, pure}
 use Rattle.payload.specs.Reader as reader
 use Rattle.payload.specs.Reading.{Context, node_key, read_item, read_items, read_kids, read_many, read_one, read_pool_index, read_shape, read_value}
-use Rattle.payload.specs.declared.Capacities.{Capacities}
 use Rattle.payload.specs.Rows.{count_words, item_words, items_words, kids_count_words, kind_width, kinds_width, part_words, root_count, row_table, row_words, unused_words}
 use Rattle.payload.specs.Shapes.{ItemKind, Shape, is_key_tag, keys, kinds_of, no_value, one_value, pairs, shape, shapes, values, with_chunk, with_fields, with_kids, with_template}
 use Rattle.payload.specs.Trees.{Node, forget_item, forget_items, item_value, items_value, cons, key_of, nil, node_of, number, single, string}
-use Rattle.read_items.specs.Context.{PartsFit, PoolFits, context_of, parts_of, plain_words}
+use Rattle.read_items.specs.Context.{PartsFit, context_of, parts_of, plain_words}
 use Rattle.cursor.specs.Reads.{part_of}
-use Rattle.read_values.specs.Did.{Fit, context}
-use Rattle.read_values.specs.State.{state_of}
-use Rattle.read_values.specs.Under.{chunk_row, field_row}
-use Rattle.read_values.specs.declared.State.{State}
+use Rattle.read_values.specs.Did.{context_in}
+use Rattle.read_heads.specs.Following.{read_chunk_row, read_field_row}
+use Rattle.read_values.specs.declared.sources.Source.{Source}
 use Rattle.key_test.specs.Laws.Tags.{by_table, every}
 use Rattle.key_test.specs.Laws.Entries.{KeyNode, key_value}
 
@@ -66,12 +64,12 @@ module _ (e : Context) where
         let w : node_of t a.0 b.0 ≡ u = cc in rw (← w)
     shape_tag (with_chunk ks) s u z q =
         let a = invert (read_items e ks s) _ u z q in
-        let b = invert (read_one (chunk_row e rv) a.1) _ u z a.3 in
+        let b = invert (read_one (read_chunk_row e rv) a.1) _ u z a.3 in
         let w : node_of t a.0 b.0 ≡ u = cc in rw (← w)
     shape_tag (with_fields ks) s u z q =
         let a = invert (read_items e ks s) _ u z q in
         let n = invert (varint a.1) _ u z a.3 in
-        let b = invert (read_many n.0 (field_row e rv) n.1) _ u z n.3 in
+        let b = invert (read_many n.0 (read_field_row e rv) n.1) _ u z n.3 in
         let w : node_of t a.0 b.0 ≡ u = cc in rw (← w)
     shape_tag (with_template ks) s u z q =
         let f = invert (rv s) _ u z q in
@@ -136,7 +134,7 @@ index_in_lem p e h s l z q =
 
 ---- a key's row
 
-module _ (c : Capacities) (p : List ℕ) where
+module _ (p : List ℕ) where
   number_key : (t : ℕ) (k : _) (w : ℕ) → shape t ≡ with_kids (ItemKind.number k ∷ []) no_value → (t ≡ 6 → ⊥) → KeyNode p (node_of t (number k w ∷ []) nil)
   unfolding node_of single row_table row_words root_count items_words item_words count_words kids_count_words unused_words kinds_of kinds_width kind_width node_key key_of forget_items forget_item items_value item_value key_value
   number_key t k w e n = record { first = w; second = 0; words = rw e; value = rw (ne_eqb t 6 n); inside = λ q. absurd (n q) }
@@ -184,7 +182,7 @@ module _ (c : Capacities) (p : List ℕ) where
 
 ---- a key that was read
 
-module _ (c : Capacities) (p : List ℕ) where
+module _ (p : List ℕ) where
   part_stands : (o n : ℕ) → o + n ≤ length p → InStore p (part_of p o n)
   part_stands o n h = let l : length (take n (drop o p)) ≡ n = simp (length-take, length-drop) (omega arith) in
       record { in_store = omega arith; its_bytes = ap (λ (k : ℕ). take k (drop o p)) l }
@@ -203,11 +201,11 @@ module _ (c : Capacities) (p : List ℕ) where
 
 -- one row, whose words are the key's
 pub key_read :
-    (capacities : Capacities) (p names pool : List ℕ) {rows spans : List ℕ} {now : State} → Fit capacities p rows spans now → PoolFits p pool →
-    (d : ℕ) (t : Node Part) (z : reader.State) → read_value (context capacities p names pool) d (state_of p now) ≡ ok t z → is_key_tag t.tag ≡ true → KeyNode p t
+    (e : Source) (d : ℕ) (s : reader.State) (t : Node Part) (z : reader.State) → read_value (context_in e) d s ≡ ok t z → is_key_tag t.tag ≡ true →
+    KeyNode e.payload.now t
 unfolding context_of
-key_read capacities p names pool {now = now} f h d t z q k =
-    let s = shaped (context capacities p names pool) d (state_of p now) t z q in
-    let g = shape_tag (context capacities p names pool) s.value s.tag (shape s.tag) s.start t z s.is in
-    key_node_lem capacities p (context capacities p names pool) s.value s.tag (shape s.tag) refl (key_shape_lem s.tag s.low (rw g at k)) s.start
-    t z s.is (pool_stands capacities p (plain_words pool) h)
+key_read e d s t z q k =
+    let g = shaped (context_in e) d s t z q in
+    let same_tag = shape_tag (context_in e) g.value g.tag (shape g.tag) g.start t z g.is in
+    key_node_lem e.payload.now (context_in e) g.value g.tag (shape g.tag) refl (key_shape_lem g.tag g.low (rw same_tag at k)) g.start
+    t z g.is (pool_stands e.payload.now (plain_words e.pool.now) e.pool_fits)

@@ -1,6 +1,6 @@
-pub mod Tags
+pub mod Classes
 pub mod Loop
-pub mod Shape
+pub mod Tests
 pub mod Value
 pub mod KeyRead
 pub mod EntryLoop

@@ -1,149 +1,84 @@
 -- A loop that reads so many trees alike.
-use mathlib.Core.List.{List}
 use mathlib.Core.Path.{◌≡◌, refl, sym, ◌∙◌}
 use Prim.Native.Nat.{ℕ, suc, ◌≤◌, ◌<◌, ◌+◌, ◌-◌}
 use native.Mathlib.Omega.{arith}
-use lib.ListN.{length}
 use Rattle.slices.specs.Laws.Put.{put_none}
 use Rattle.payload.specs.Reader.{Part, Reader, ◌>>=◌, and_then, pure}
-use Rattle.payload.specs.Reader as reader
-use Rattle.payload.specs.Reading.{read_many}
+use Rattle.payload.specs.Reading.{Context, read_many}
 use Rattle.payload.specs.Rows.{row_table, span_table}
 use Rattle.payload.specs.Tables.{span_words}
-use Rattle.payload.specs.Trees.{Node, cons, nil, single}
+use Rattle.payload.specs.Trees.{Node, nil}
 use Rattle.key_test.specs.Told.{Told}
 use Rattle.refusal.specs.declared.Refusal.{Refusal}
-use Rattle.std.specs.Prelude.{Ok, Err}
-use Rattle.read_values.specs.Did.{many_trees, one_tree, Fit, Ran, Did, Step}
-use Rattle.read_values.specs.State.{state_of}
-use Rattle.read_values.specs.Laws.Did.{ran_of, no_of, ran_more}
-use Rattle.payload.specs.declared.Capacities.{Capacities}
-use Rattle.read_values.specs.declared.State.{State}
-
--- the tables after a part that was read fit where they fitted before it
-pub fit_next :
-    {capacities : Capacities} {p rows rows' spans spans' : List ℕ} {now next : State} → Fit capacities p rows spans now → next.at ≤ length p →
-    next.rows ≤ capacities.rows → next.spans ≤ capacities.spans → length rows' ≡ length rows → length spans' ≡ length spans →
-    Fit capacities p rows' spans' next
-fit_next f a b c l l' =
-    record { place = a; used = b; covered = c; room = omega (arith, f.room, l); cover = omega (arith, f.cover, l'); few = f.few; few_spans = f.few_spans }
+use Rattle.std.specs.Prelude.{Result, Ok, Err}
+use Rattle.read_values.specs.Did.{many_trees, one_tree}
+use Rattle.read_values.specs.Does.{Does}
+use Rattle.read_values.specs.Laws.Did.{did_front, did_same}
+use Rattle.read_values.specs.Laws.Does.{did_from}
+use Rattle.read_values.specs.declared.values.Decoder.{Decoder}
 
 -- no tree: nothing is stored
-pub did_none : {capacities : Capacities} {p rows spans : List ℕ} {now : State} → Fit capacities p rows spans now →
-    Did many_trees capacities p rows rows spans spans now.rows now.spans (Ok now) (pure nil (state_of p now))
+pub does_none : (s : Decoder) {u : Unit {0}} → Does many_trees s s (Ok u) (λ e. pure nil)
 unfolding pure row_table span_table span_words Told
-did_none {rows = rows} {spans = spans} f = record {
-  out = (
-    nil,
-    record {
-      is = refl;
-      wrote = sym (put_none rows _);
-      size = omega arith;
-      filled = sym (put_none spans _);
-      spanned = omega arith;
-      used = f.used;
-      covered = f.covered;
-      place = f.place;
-      told = tt;
-    },
-  );
+does_none s = record {
+  same = refl;
+  did = record {
+    out = (
+      nil,
+      record {
+        is = refl;
+        wrote = sym (put_none s.rows.now _);
+        size = omega arith;
+        filled = sym (put_none s.spans.now _);
+        spanned = omega arith;
+        used = s.fits.used;
+        covered = s.fits.covered;
+        place = s.fits.place;
+        told = tt;
+      },
+    );
+  };
 }
 
+module _ {s r : Decoder} {rd : Context → Reader (Node Part)} where
+  -- one tree, and the rest
+  pub does_more :
+      (n : ℕ) {u : Unit {0}} {z : Decoder} {x : Result (Unit {0}) Refusal} → Does one_tree s r (Ok u) rd → Does many_trees r z x (λ e. read_many n (rd e)) →
+      Does many_trees s z x (λ e. read_many (suc n) (rd e))
+  unfolding read_many ◌>>=◌ and_then
+  does_more n h k = record { same = k.same ∙ h.same; did = did_same (rw h.did.out.1.is) (did_front h.did.out.1 (did_from s h.same k)) }
+
+  -- one tree is refused
+  pub does_stop : (n : ℕ) {a : Refusal} → Does one_tree s r (Err a) rd → Does many_trees s r (Err a) (λ e. read_many (suc n) (rd e))
+  unfolding read_many ◌>>=◌ and_then
+  does_stop n h = record { same = h.same; did = record { out = rw h.did.out } }
+
+  -- one tree alone
+  pub does_one : {x : Result (Unit {0}) Refusal} → Does one_tree s r x rd → Does many_trees s r x (λ e. read_many 1 (rd e))
+  unfolding read_many
+  does_one {x = Err a} h = does_stop 0 h
+  does_one {x = Ok u} h = does_more 0 h (does_none r)
+
 -- After k trees: whatever the rest does from here, all of it does from the start.
-pub record Sofar (capacities : Capacities) (p rows₀ rows spans₀ spans : List ℕ) (rd : Reader (Node Part)) (st now : State) (count k : ℕ) : Type 0 where
-  pub fit : Fit capacities p rows spans now
+pub record Sofar (s r : Decoder) (rd : Context → Reader (Node Part)) (count k : ℕ) : Type 0 where
   pub upto : k ≤ count
-  pub same : length rows ≡ length rows₀
-  pub same_spans : length spans ≡ length spans₀
-  pub rest : (c c' : List ℕ) (r : Step) → Did many_trees capacities p rows c spans c' now.rows now.spans r (read_many (count - k) rd (state_of p now)) →
-      Did many_trees capacities p rows₀ c spans₀ c' st.rows st.spans r (read_many count rd (state_of p st))
+  pub rest : (z : Decoder) (x : Result (Unit {0}) Refusal) → Does many_trees r z x (λ e. read_many (count - k) (rd e)) →
+      Does many_trees s z x (λ e. read_many count (rd e))
 
--- one tree, and the rest
-step_did :
-    (capacities : Capacities) (p rows rows' spans spans' : List ℕ) (rd : Reader (Node Part)) (now next : State) (n : ℕ) (t : Node Part) (c c' : List ℕ)
-    (r : Step) → Ran one_tree capacities p rows rows' spans spans' now.rows now.spans next t (rd (state_of p now)) →
-    Did many_trees capacities p rows' c spans' c' next.rows next.spans r (read_many n rd (state_of p next)) →
-    Did many_trees capacities p rows c spans c' now.rows now.spans r (read_many (suc n) rd (state_of p now))
-unfolding read_many ◌>>=◌ and_then pure
-step_did capacities p rows rows' spans spans' rd now next n t c c' (Err e) g d = record { out = rw (g.is, d.out) }
-step_did capacities p rows rows' spans spans' rd now next n t c c' (Ok z) g d =
-    record { out = (cons t d.out.0, ran_more g d.out.1 _ (rw (g.is, d.out.1.is))) }
+module _ {s : Decoder} {rd : Context → Reader (Node Part)} {count : ℕ} where
+  pub sofar_start : Sofar s s rd count 0
+  sofar_start = record { upto = omega arith; rest = λ z x d. let e : count - 0 ≡ count = omega arith in rw e at d }
 
--- one tree alone
-pub did_one : {capacities : Capacities} {p a b a' b' : List ℕ} {i j : ℕ} (rd : Reader (Node Part)) (s : reader.State) (r : Step) →
-    Did one_tree capacities p a b a' b' i j r (rd s) → Did many_trees capacities p a b a' b' i j r (read_many 1 rd s)
-unfolding read_many ◌>>=◌ and_then pure single cons
-did_one rd s (Err e) d = record { out = rw d.out }
-did_one rd s (Ok z) d =
-    let g = d.out.1 in
-    record {
-      out = (
-        cons d.out.0 nil,
-        record {
-          is = rw g.is;
-          wrote = g.wrote;
-          size = g.size;
-          filled = g.filled;
-          spanned = g.spanned;
-          used = g.used;
-          covered = g.covered;
-          place = g.place;
-          told = g.told;
-        },
-      );
+  module _ {r : Decoder} {k : ℕ} (g : Sofar s r rd count k) where
+    pub sofar_next : {z : Decoder} {u : Unit {0}} → k < count → Does one_tree r z (Ok u) rd → Sofar s z rd count (k + 1)
+    sofar_next h d = record {
+      upto = omega arith;
+      rest = λ z x l. let e : count - k ≡ suc (count - (k + 1)) = omega arith in g.rest z x (rw e (does_more (count - (k + 1)) d l));
     }
 
--- none or one
-pub did_gap_none :
-    {capacities : Capacities} {p rows spans : List ℕ} {now : State} (rd : Reader (Node Part)) {gap : ℕ} → gap ≡ 0 → Fit capacities p rows spans now →
-    Did many_trees capacities p rows rows spans spans now.rows now.spans (Ok now) (read_many gap rd (state_of p now))
-unfolding read_many
-did_gap_none rd e f = rw e (did_none f)
+    pub sofar_stop : {z : Decoder} {a : Refusal} → k < count → Does one_tree r z (Err a) rd → Does many_trees s z (Err a) (λ e. read_many count (rd e))
+    sofar_stop h d = let e : count - k ≡ suc (count - (k + 1)) = omega arith in g.rest _ _ (rw e (does_stop (count - (k + 1)) d))
 
-pub did_gap_one :
-    {capacities : Capacities} {p a b a' b' : List ℕ} {i j : ℕ} (rd : Reader (Node Part)) (s : reader.State) (r : Step) {gap : ℕ} → gap ≡ 1 →
-    Did one_tree capacities p a b a' b' i j r (rd s) → Did many_trees capacities p a b a' b' i j r (read_many gap rd s)
-did_gap_one rd s r e d = rw e (did_one rd s r d)
-
-module _ {capacities : Capacities} {p : List ℕ} {rows₀ spans₀ : List ℕ} {rd : Reader (Node Part)} {st : State} {count : ℕ} where
-  pub sofar_start : Fit capacities p rows₀ spans₀ st → Sofar capacities p rows₀ rows₀ spans₀ spans₀ rd st st count 0
-  sofar_start f = record {
-    fit = f;
-    upto = omega arith;
-    same = refl;
-    same_spans = refl;
-    rest = λ c c' r d. let e : count - 0 ≡ count = omega arith in rw e at d;
-  }
-
-  pub sofar_next : {rows rows' spans spans' : List ℕ} {now next : State} {k : ℕ} {r : Step} →
-      (s : Sofar capacities p rows₀ rows spans₀ spans rd st now count k) → k < count → r ≡ Ok next →
-      Did one_tree capacities p rows rows' spans spans' now.rows now.spans r (rd (state_of p now)) →
-      length rows' ≡ length rows → length spans' ≡ length spans → Sofar capacities p rows₀ rows' spans₀ spans' rd st next count (k + 1)
-  sofar_next {rows = rows} {rows' = rows'} {spans = spans} {spans' = spans'} {now = now} {next = next} {k = k} s h e d l l' =
-      let g = ran_of e d in
-      record {
-        fit = fit_next s.fit g.1.place g.1.used g.1.covered l l';
-        upto = omega arith;
-        same = l ∙ s.same;
-        same_spans = l' ∙ s.same_spans;
-        rest = λ c c' r' d'.
-            let z : count - k ≡ suc (count - (k + 1)) = omega arith in
-            s.rest c c' r' (rw z (step_did capacities p rows rows' spans spans' rd now next (count - (k + 1)) g.0 c c' r' g.1 d'));
-      }
-
-  pub sofar_end :
-      {rows spans : List ℕ} {now : State} {k : ℕ} → Sofar capacities p rows₀ rows spans₀ spans rd st now count k → count ≤ k →
-      Did many_trees capacities p rows₀ rows spans₀ spans st.rows st.spans (Ok now) (read_many count rd (state_of p st))
-  unfolding read_many
-  sofar_end {rows = rows} {spans = spans} {now = now} {k = k} s h =
-      let z : count - k ≡ 0 = omega arith in
-      s.rest rows spans (Ok now) (rw z (did_none s.fit))
-
-  pub sofar_stop : {rows rows' spans spans' : List ℕ} {now : State} {k : ℕ} {e : Refusal} {r : Step} →
-      (s : Sofar capacities p rows₀ rows spans₀ spans rd st now count k) → k < count → r ≡ Err e →
-      Did one_tree capacities p rows rows' spans spans' now.rows now.spans r (rd (state_of p now)) →
-      Did many_trees capacities p rows₀ rows' spans₀ spans' st.rows st.spans (Err e) (read_many count rd (state_of p st))
-  unfolding read_many ◌>>=◌ and_then
-  sofar_stop {rows' = rows'} {spans' = spans'} {k = k} {e = a} s h e d =
-      let z : count - k ≡ suc (count - (k + 1)) = omega arith in
-      s.rest rows' spans' (Err a) (rw z (record { out = rw (no_of e d) }))
+    pub sofar_end : {u : Unit {0}} → count ≤ k → Does many_trees s r (Ok u) (λ e. read_many count (rd e))
+    unfolding read_many
+    sofar_end h = let e : count - k ≡ 0 = omega arith in g.rest r _ (rw e (does_none r))

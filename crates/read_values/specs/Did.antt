@@ -2,7 +2,7 @@
 use Rattle.std.specs.Prelude.{List, ◌≡◌, ℕ, ◌+◌, ◌*◌, ◌≤◌, length}
 use Rattle.std.specs.Prelude as std
 use Rattle.slices.specs.Put.{put}
-use Rattle.payload.specs.Reader.{Part, Reader, Result, ok, refused}
+use Rattle.payload.specs.Reader.{Part, Result, ok, refused}
 use Rattle.payload.specs.Reading.{Context}
 use Rattle.payload.specs.declared.Capacities.{Capacities}
 use Rattle.payload.specs.Rows.{row_table, row_width, span_table}
@@ -76,7 +76,3 @@ context_in e = context e.capacities e.payload.now e.names.now e.pool.now
 
 abbrev pub Fits : Source → List ℕ → List ℕ → State → Type 0
 Fits e rows spans s = Fit e.capacities e.payload.now rows spans s
-
--- r is what a reader of the definition does with a source from a state of the code on
-abbrev pub Does : {A : Type 0} → View A → Source → List ℕ → List ℕ → List ℕ → List ℕ → State → Step → (Context → Reader A) → Type 0
-Does view e rows rows' spans spans' s r reader = Did view e.capacities e.payload.now rows rows' spans spans' s.rows s.spans r (reader (context_in e) (state_of e.payload.now s))

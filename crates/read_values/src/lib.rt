@@ -3,7 +3,6 @@
 
 mod rows;
 mod sources;
-mod states;
 mod values;
 
 ghost use Rattle.read_values.specs.Outer.{OuterRead};
@@ -13,6 +12,7 @@ ghost use Rattle.read_values.specs.State.{start_at};
 use payload::Program;
 use refusal::Refusal;
 pub use sources::Source;
+use values::Decoder;
 
 // The next unread byte, and the rows and spans used.
 #[derive(Clone, Copy)]
@@ -32,10 +32,22 @@ pub fn read_outer(
     requires { Fits source.now rows.old spans.old (start_at at) }
     ensures { OuterRead source.now rows.old rows.new spans.old spans.new at result }
 {
-    let outer = values::read_chunk(source, Program::DEPTH, rows, spans, State::start(at));
-    if outer.is_err() {
-        rows.fill(0);
-        spans.fill(0);
+    let mut decoder = Decoder {
+        source: *source,
+        rows,
+        spans,
+        state: State {
+            at,
+            rows: 0,
+            spans: 0,
+        },
+    };
+    match decoder.read_chunk(Program::DEPTH) {
+        Ok(()) => Ok(decoder.state),
+        Err(refusal) => {
+            rows.fill(0);
+            spans.fill(0);
+            Err(refusal)
+        }
     }
-    outer
 }

@@ -75,17 +75,12 @@ enum Call {
 
 // A program written, or a payload read or checked.
 fn called(call: Call, records: &[u8], mut tables: LentTables<'_>) -> Option<usize> {
-    match call {
-        Call::Read => {
-            let answer = payloads::read(records, &mut tables);
-            payloads::agreed(records, answer, &mut tables)
-        }
-        Call::Check => {
-            let answer = payloads::checked(records, &mut tables);
-            payloads::agreed(records, answer, &mut tables)
-        }
-        Call::Write => programs::written(records, tables),
-    }
+    let answer = match call {
+        Call::Read => payloads::read(records, &mut tables),
+        Call::Check => payloads::checked(records, &mut tables),
+        Call::Write => return programs::written(records, tables),
+    };
+    payloads::agreed(records, answer, &mut tables)
 }
 
 // Lends the front of each table, as many words as the record says in the fields from `at` on. Ones stand in them, so that a word which a call should
@@ -149,6 +144,7 @@ struct Agreed {
 fn agreed_records(name: &[u8], records: &[u8]) -> Agreed {
     let mut end = 0;
     let mut count: u64 = 0;
+    // Each record tells where the next begins.
     while let Some(used) = first_whole(name, &records[end..]) {
         end += used;
         count += 1;

@@ -13,14 +13,9 @@ const BEFORE: u8 = 170;
 
 // The program record.
 fn program_at(records: &[u8]) -> Program {
-    Program {
-        rows: number_at(records, 12, 8) as usize,
-        spans: number_at(records, 20, 8) as usize,
-        starts: number_at(records, 28, 8) as usize,
-        flag: number_at(records, 36, 8),
-        name_o: number_at(records, 44, 8) as usize,
-        name_n: number_at(records, 52, 8) as usize,
-    }
+    let mut words = [0u64; 6];
+    numbers_in(part(records, 12, 48), &mut words);
+    Program::of_words(&words)
 }
 
 // Whether an answer is what is recorded: number, and length or place.

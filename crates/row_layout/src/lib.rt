@@ -7,7 +7,33 @@ ghost use Rattle.std.specs.Prelude.{◌≡◌, ◌≤◌, min, get_or};
 ghost use Rattle.payload.specs.Shapes.{is_key_tag};
 ghost use Rattle.row_layout.specs.Digits.{entries};
 ghost use Rattle.row_layout.specs.Layout.{first_form, second_form, second_word, under_form, count_word, first_test, second_test, under_rules, used_words};
-ghost use Rattle.row_layout.specs.Number.{test_number, rules_number};
+ghost use Rattle.row_layout.specs.Number.{form_number, under_number, test_number, rules_number};
+
+pub mod row;
+pub mod tags;
+
+// How an item is written.
+#[derive(Clone, Copy, Debug, PartialEq, Eq)]
+pub enum Form {
+    NoItem,
+    Varint,
+    Zigzag,
+    Byte,
+    EightBytes,
+    FourBytes,
+    Text,
+    Code,
+}
+
+// How many rows are under a row: none, one, as many as its count says, twice as many, or a function and as many.
+#[derive(Clone, Copy, Debug, PartialEq, Eq)]
+pub enum Under {
+    Nothing,
+    OneRow,
+    Counted,
+    CountedPairs,
+    Template,
+}
 
 // The test that the words of an item must pass.
 #[derive(Clone, Copy, Debug, PartialEq, Eq)]
@@ -38,6 +64,41 @@ pub enum Rules {
     Chunk,
     Fields,
     Template,
+}
+
+impl Form {
+    // The form that a digit stands for.
+    fn of(digit: u64) -> Self
+        requires { digit ≤ 7 }
+        ensures { form_number result ≡ digit }
+    {
+        match digit {
+            0 => Form::NoItem,
+            1 => Form::Varint,
+            2 => Form::Zigzag,
+            3 => Form::Byte,
+            4 => Form::EightBytes,
+            5 => Form::FourBytes,
+            6 => Form::Text,
+            _ => Form::Code,
+        }
+    }
+}
+
+impl Under {
+    // What a digit stands for.
+    fn of(digit: u64) -> Self
+        requires { digit ≤ 4 }
+        ensures { under_number result ≡ digit }
+    {
+        match digit {
+            0 => Under::Nothing,
+            1 => Under::OneRow,
+            2 => Under::Counted,
+            3 => Under::CountedPairs,
+            _ => Under::Template,
+        }
+    }
 }
 
 impl Test {
@@ -100,17 +161,19 @@ fn digit(tag: u64, low: u64, middle: u64, high: u64) -> u64
 }
 
 // The form of the first item.
-pub fn first_form(tag: u64) -> u64
-    ensures { result ≡ first_form tag }
+pub fn first_form(tag: u64) -> Form
+    ensures { form_number result ≡ first_form tag }
 {
-    digit(tag, 0x0000_0006_6613_3420, 0x0000_0152_2112_1166, 0x067)
+    let digit = digit(tag, 0x0000_0006_6613_3420, 0x0000_0152_2112_1166, 0x067);
+    Form::of(digit)
 }
 
 // The form of the second item.
-pub fn second_form(tag: u64) -> u64
-    ensures { result ≡ second_form tag }
+pub fn second_form(tag: u64) -> Form
+    ensures { form_number result ≡ second_form tag }
 {
-    digit(tag, 0x0000_0000_1000_0000, 0x0000_0100_0000_0060, 0x000)
+    let digit = digit(tag, 0x0000_0000_1000_0000, 0x0000_0100_0000_0060, 0x000);
+    Form::of(digit)
 }
 
 // The word where the second item begins.
@@ -121,10 +184,11 @@ pub fn second_word(tag: u64) -> u64
 }
 
 // What is under the row.
-pub fn under_form(tag: u64) -> u64
-    ensures { result ≡ under_form tag }
+pub fn under_form(tag: u64) -> Under
+    ensures { under_number result ≡ under_form tag }
 {
-    digit(tag, 0x3222_1110_1000_0000, 0x0000_0000_0000_0402, 0x012)
+    let digit = digit(tag, 0x3222_1110_1000_0000, 0x0000_0000_0000_0402, 0x012);
+    Under::of(digit)
 }
 
 // The word of the count.

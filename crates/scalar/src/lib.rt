@@ -25,7 +25,8 @@ pub enum Scalar {
     Handle(u8, u64),
 }
 
-// What a row's words hold. A float keeps no NaN's bits, so those stand beside the fourteen cases. Other is no scalar.
+// What a row's words hold. A float keeps no NaN's bits, so those stand beside the fourteen cases. Other is no scalar:
+// a case and no `Option`, as the definition has it.
 #[derive(Clone, Copy)]
 pub enum Constant {
     Value(Scalar),

@@ -1,5 +1,5 @@
 -- The rows under a row: how they are scanned, how many there are, and where the row after them stands.
-use Rattle.std.specs.Prelude.{true, List, [], ◌∷◌, ◌≡◌, ◌*◌, ◌+◌, ◌<◌, suc, ℕ, eqb}
+use Rattle.std.specs.Prelude.{true, List, [], ◌∷◌, ◌≡◌, ◌*◌, ◌+◌, ◌<◌, suc, ℕ, eqb, if◌then◌else◌}
 use Rattle.payload.specs.Choice.{when◌then◌else◌}
 use Rattle.payload.specs.Reader.{Part, Reader, ◌>>=◌, pure}
 use Rattle.payload.specs.Reading.{read_many}
@@ -16,9 +16,6 @@ scan_chunk store r = scan_untagged store r 32 (ItemKind.code ∷ []) values
 
 abbrev pub scan_field : List ℕ → RowScan → Reader (Node Part)
 scan_field store r = scan_untagged store r 33 (ItemKind.string ∷ []) one_value
-
-abbrev pub scan_chunk_or_field : List ℕ → RowScan → ℕ → Reader (Node Part)
-scan_chunk_or_field store r tag = when eqb tag 32 then scan_chunk store r else scan_field store r
 
 -- a row of a kind
 abbrev pub scan_member : List ℕ → RowScan → Member → Reader (Node Part)
@@ -41,13 +38,13 @@ module _ (store : List ℕ) where
   -- the same by the rules of a shape
   unfoldable pub scan_by : RowScan → ℕ → ℕ → Reader (Trees Part)
   scan_by r rules n =
-      when eqb rules 0 then pure nil
-      else when eqb rules 1 then read_many 1 (r any_row)
-      else when eqb rules 5 then read_many 1 (scan_chunk store r)
-      else when eqb rules 3 then scan_keys n [] r
-      else when eqb rules 4 then scan_pairs n [] r
-      else when eqb rules 6 then read_many n (scan_field store r)
-      else when eqb rules 7 then scan_template r n
+      if eqb rules 0 then pure nil
+      else if eqb rules 1 then read_many 1 (r any_row)
+      else if eqb rules 5 then read_many 1 (scan_chunk store r)
+      else if eqb rules 3 then scan_keys n [] r
+      else if eqb rules 4 then scan_pairs n [] r
+      else if eqb rules 6 then read_many n (scan_field store r)
+      else if eqb rules 7 then scan_template r n
       else read_many n (r any_row)
 
 unfoldable pub kids_under : Kids → ℕ → ℕ
@@ -66,11 +63,11 @@ shape_under (with_template kinds) n = n + 1
 -- the same by the rules of a shape
 unfoldable pub under_by : ℕ → ℕ → ℕ
 under_by rules n =
-    when eqb rules 0 then 0
-    else when eqb rules 1 then 1
-    else when eqb rules 5 then 1
-    else when eqb rules 4 then 2 * n
-    else when eqb rules 7 then n + 1
+    if eqb rules 0 then 0
+    else if eqb rules 1 then 1
+    else if eqb rules 5 then 1
+    else if eqb rules 4 then 2 * n
+    else if eqb rules 7 then n + 1
     else n
 
 unfoldable pub rows_under : List ℕ → ℕ → ℕ

@@ -35,7 +35,7 @@ pub fn from_word(u: u64) -> i64
     u.cast_signed()
 }
 
-// The low `bits` bits of u as a signed number, modulo 2^64.
+// The low `bits` bits of u as a signed number, modulo 2^64. One function for all widths, where casts would be one for each.
 pub fn cut_signed(u: u64, bits: u64) -> u64
     requires { (1 ≤ bits) × (bits < 64) }
     ensures { result ≡ word_of (signed_of bits u) }

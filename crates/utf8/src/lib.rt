@@ -7,7 +7,8 @@ ghost use Rattle.utf8.specs.Pairs.{begins_two, begins_short, can_follow, Follows
 ghost use Rattle.utf8.specs.Skips.{Ascii, high_bits, Skips};
 ghost use Rattle.utf8.specs.Utf8.{is_tail, is_two, is_three, is_four, width_at, is_utf8, part_is_utf8};
 
-// The byte at i, or 0 past the end.
+// The byte at i, or 0 past the end: no byte behind the first of a character is 0. With `*s.get(i)?` in its place, text that mixes ASCII and longer characters takes up to a
+// fifth longer.
 fn byte_at(s: &[u8], i: usize) -> u8
     ensures { result ≡ get_or s.now i 0 }
 {
@@ -115,6 +116,9 @@ fn block_is_ascii(block: &[u8]) -> bool
         & (high_bits(block, 16) == 0)
         & (high_bits(block, 24) == 0)
 }
+
+// The functions that skip take a place in s, and give one. With the rest of s in its place, which needs no bound, text that mixes ASCII and longer characters takes
+// up to a quarter longer.
 
 // Past SIZE bytes at a time, for as long as they pass.
 fn skip_while<const SIZE: usize, F: Fn(&[u8]) -> bool>(s: &[u8], from: usize, passes: F) -> usize
@@ -257,6 +261,7 @@ pub fn is_utf8(s: &[u8]) -> bool
     ensures { result ≡ is_utf8 s.now }
 {
     let mut i = skip_front(s);
+    // How far a turn goes is found in it.
     while i < s.len() {
         if s[i] < 0x80 {
             i = skip_ascii(s, i + 1);

@@ -23,7 +23,7 @@ pub fn write_uvarint(out: &mut [u8], at: usize, n: u64) -> usize
 {
     let mut rest = n;
     let mut i = at;
-    // A `while`: it goes on for as long as something is left of the number, and how many bytes that makes is known only at its end, so a `for` is no plainer.
+    // A `while` for as long as something is left of the number: a `for` would work out the width first.
     while 128 <= rest {
         out[i] = (rest % 128 + 128) as u8;
         rest = rest / 128;

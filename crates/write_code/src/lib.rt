@@ -1,13 +1,13 @@
 // A chunk's code, and its spans as maximal runs.
 #![tactic(auto)]
 
-ghost use Rattle.std.specs.Prelude.{◌≡◌, ◌+◌, ◌*◌, ◌/◌, ◌^◌, ◌<◌, ◌≤◌, true, [], ◌∷◌, ◌++◌, length, slice_index, pos, ◌-ℤ◌, if◌then◌else◌};
+ghost use Rattle.std.specs.Prelude.{◌≡◌, ◌+◌, ◌^◌, ◌<◌, ◌≤◌, true, [], ◌∷◌, ◌++◌, length, pos, ◌-ℤ◌, if◌then◌else◌, IfSome, IfNone};
 ghost use Rattle.varint.specs.Uleb128.{uleb128};
 ghost use Rattle.signed.specs.Signed.{zigzag_of};
 ghost use Rattle.payload.specs.Spans.{same_span, write_delta, runs_of, write_runs};
 ghost use Rattle.payload.specs.Sound.{spans_of};
 ghost use Rattle.emit.specs.Emits.{Emits};
-ghost use Rattle.write_code.specs.Runs.{Positions, span, span_at, leading_trues, RunEnd};
+ghost use Rattle.write_code.specs.Runs.{Positions, span, leading_trues, repeated};
 
 use emit::Emitter;
 use emit::parts::Part;
@@ -89,39 +89,40 @@ impl Span {
             end: zero,
         }
     }
+
+    // Whether these are its words. Both are compared, so that there is no branch between them.
+    fn has(self, start: u64, end: u64) -> bool
+        ensures { result ≡ same_span (span self.start.offset self.end.offset) (span start end) }
+    {
+        (self.start.offset == start) & (self.end.offset == end)
+    }
 }
 
-// The three numbers of a run of n times a span, after a run of the last one.
-fn write_run(emitter: &mut Emitter, last: Span, next: Span, n: u64)
+// A span, and how often it stands there.
+#[derive(Clone, Copy)]
+struct Run {
+    span: Span,
+    count: u64,
+}
+
+// The three numbers of a run, after a run of the last span.
+fn write_run(emitter: &mut Emitter, last: Span, run: Run)
     ensures { Emits emitter.old emitter.new
-        ((write_delta last.start.offset next.start.offset ++ write_delta last.end.offset next.end.offset) ++ uleb128 n) }
+        ((write_delta last.start.offset run.span.start.offset ++ write_delta last.end.offset run.span.end.offset) ++ uleb128 run.count) }
 {
     emitter.three_varints(
-        last.start.delta_to(next.start),
-        last.end.delta_to(next.end),
-        n,
+        last.start.delta_to(run.span.start),
+        last.end.delta_to(run.span.end),
+        run.count,
     );
-}
-
-// A test as a number to add.
-fn one_if(test: bool) -> usize
-    ensures { (result ≡ (if test then 1 else 0)) × (result ≤ 1) }
-{
-    usize::from(test)
 }
 
 // How many of four tests are true before the first that is false. A sum, so that there is no branch on a test.
 fn leading_trues(p: bool, q: bool, r: bool, s: bool) -> usize
-    ensures { (result ≡ leading_trues (p ∷ q ∷ r ∷ s ∷ [])) × (result ≤ 4) }
+    ensures trues { result ≡ leading_trues (p ∷ q ∷ r ∷ s ∷ []) }
+    ensures bound { result ≤ 4 }
 {
-    one_if(p) + one_if(p & q) + one_if((p & q) & r) + one_if(((p & q) & r) & s)
-}
-
-// The one number or the other. A choice of values, so that there is no branch on the test.
-fn either(test: bool, a: usize, b: usize) -> usize
-    ensures { result ≡ (if test then a else b) }
-{
-    if test { a } else { b }
+    usize::from(p) + usize::from(p & q) + usize::from((p & q) & r) + usize::from(((p & q) & r) & s)
 }
 
 // How many bytes the ULEB128 of a number has.
@@ -138,7 +139,7 @@ fn boundary_width(ends: bool, n: u64, last: Span, next: Span) -> usize
         × (result ≤ 30) }
 {
     if (last.start.is_near(next.start) & last.end.is_near(next.end)) & (n < 128) {
-        return 3 * one_if(ends);
+        return 3 * usize::from(ends);
     }
     if ends {
         return width(n) + (last.start.delta_width(next.start) + last.end.delta_width(next.end));
@@ -153,97 +154,103 @@ pub struct Runs<'a> {
     pub ghost positions: { Positions spans.now },
 }
 
-impl Runs<'_> {
-    // Counts a run for each span that differs from the next, and one for the last span.
-    fn count(&self) -> usize
-        ensures { result ≡ length (runs_of (spans_of self.now.spans.now)) }
+impl<'a> Runs<'a> {
+    // The first span, and the spans after it.
+    fn split_first(self) -> Option<(Span, Runs<'a>)>
+        ensures some { IfSome result (λ r. spans_of self.entry.spans.now ≡ span r.0.start.offset r.0.end.offset ∷ spans_of r.1.spans.now) }
+        ensures none { IfNone result (spans_of self.entry.spans.now ≡ []) }
     {
-        let spans = self.spans;
-        let count = spans.len() / 2;
-        if count == 0 {
-            return 0;
-        }
-        let mut n: usize = 1;
-        for k in 0..count - 1 {
-            if (spans[2 * k] != spans[2 * k + 2]) | (spans[2 * k + 1] != spans[2 * k + 3]) {
-                n += 1;
-            }
-        }
-        n
+        let [start, end, after @ ..] = self.spans else {
+            return None;
+        };
+        let first = Span {
+            start: Position { offset: *start },
+            end: Position { offset: *end },
+        };
+        Some((first, Runs { spans: after }))
     }
 
-    fn span(&self, k: usize) -> Span
-        requires { k < length self.now.spans.now / 2 }
-        ensures { (result.start.offset ≡ slice_index self.now.spans.now (2 * k)) × (result.end.offset ≡ slice_index self.now.spans.now (2 * k + 1)) }
+    // How many spans at the front are this one. The first four are compared without a branch, as their outcome cannot be foreseen; only where all four are, the spans
+    // after them are walked one by one.
+    fn repeats(self, s: Span) -> usize
+        ensures { result ≡ repeated (span s.start.offset s.end.offset) (spans_of self.entry.spans.now) }
     {
-        Span {
-            start: Position {
-                offset: self.spans[2 * k],
-            },
-            end: Position {
-                offset: self.spans[2 * k + 1],
-            },
-        }
-    }
-
-    // Whether span k is this one. Both words are compared, so that there is no branch between them.
-    fn has_at(&self, k: usize, s: Span) -> bool
-        requires { k < length self.now.spans.now / 2 }
-        ensures { result ≡ same_span (span s.start.offset s.end.offset) (span_at self.now.spans.now k) }
-    {
-        (s.start.offset == self.spans[2 * k]) & (s.end.offset == self.spans[2 * k + 1])
-    }
-
-    // The span after the run of s that begins with span k. The first four followers are compared without a branch, as their outcome cannot be
-    // foreseen; only a run that has all four is walked span by span.
-    fn run_end(&self, k: usize, s: Span) -> usize
-        requires { k < length self.now.spans.now / 2 }
-        ensures { RunEnd self.now.spans.now (span s.start.offset s.end.offset) k result }
-    {
-        let count = self.spans.len() / 2;
-        let mut l = k + 1;
-        if 5 <= count - k {
-            let n = leading_trues(
-                self.has_at(k + 1, s),
-                self.has_at(k + 2, s),
-                self.has_at(k + 3, s),
-                self.has_at(k + 4, s),
-            );
-            l = k + 1 + n;
+        let words = self.spans;
+        let mut n: usize = 0;
+        if let [a, b, c, d, e, f, g, h, ..] = words {
+            n = leading_trues(s.has(*a, *b), s.has(*c, *d), s.has(*e, *f), s.has(*g, *h));
             if n < 4 {
-                return l;
+                return n;
             }
         }
-        for next in l..count {
-            if !self.has_at(next, s) {
-                return next;
+        let count = words.len() / 2;
+        for k in n..count {
+            if !s.has(words[2 * k], words[2 * k + 1]) {
+                return k;
             }
         }
         count
     }
 
-    // How many bytes the run count and the runs have, in one pass over the spans.
-    fn length(&self) -> usize
-        ensures { result ≡ length (write_runs (spans_of self.now.spans.now)) }
+    // The first run, and the spans after it.
+    #[tactic(auto, using(crate::specs::Laws::Runs::repeated_words))]
+    fn split_run(self) -> Option<(Run, Runs<'a>)>
+        ensures some { IfSome result (λ r. runs_of (spans_of self.entry.spans.now)
+            ≡ record { span = span r.0.span.start.offset r.0.span.end.offset; count = r.0.count } ∷ runs_of (spans_of r.1.spans.now)) }
+        ensures none { IfNone result (spans_of self.entry.spans.now ≡ []) }
     {
-        let count = self.spans.len() / 2;
-        if count == 0 {
-            return 1;
+        let (span, after) = self.split_first()?;
+        let more = after.repeats(span);
+        let run = Run {
+            span,
+            count: 1 + more as u64,
+        };
+        let after_run = Runs {
+            spans: &after.spans[2 * more..],
+        };
+        Some((run, after_run))
+    }
+
+    // Counts a run for each span that differs from the next, and one for the last span.
+    fn count(self) -> usize
+        ensures { result ≡ length (runs_of (spans_of self.entry.spans.now)) }
+    {
+        let Some((mut last, mut rest)) = self.split_first() else {
+            return 0;
+        };
+        let mut n: usize = 1;
+        // One span after another: what is left knows that its words are positions, which the chunks of a slice do not tell.
+        while let Some((next, after)) = rest.split_first() {
+            if !last.has(next.start.offset, next.end.offset) {
+                n += 1;
+            }
+            last = next;
+            rest = after;
         }
-        let mut last = self.span(0);
+        n
+    }
+
+    // How many bytes the run count and the runs have, in one pass over the spans: `n` is how often the last span has stood in its run so far.
+    fn length(self) -> usize
+        ensures { result ≡ length (write_runs (spans_of self.entry.spans.now)) }
+    {
+        let Some((mut last, mut rest)) = self.split_first() else {
+            return 1;
+        };
         let mut runs: usize = 1;
-        let mut begun: usize = 0;
+        let mut n: usize = 1;
         let origin = Span::origin();
         let mut length = origin.start.delta_width(last.start) + origin.end.delta_width(last.end);
-        for k in 1..count {
-            let ends = !self.has_at(k, last);
-            let next = self.span(k);
-            length += boundary_width(ends, (k - begun) as u64, last, next);
-            runs += one_if(ends);
-            begun = either(ends, k, begun);
+        // As in `count`.
+        while let Some((next, after)) = rest.split_first() {
+            let ends = !last.has(next.start.offset, next.end.offset);
+            length += boundary_width(ends, n as u64, last, next);
+            runs += usize::from(ends);
+            n = if ends { 1 } else { n + 1 };
             last = next;
+            rest = after;
         }
-        width(runs as u64) + (length + width((count - begun) as u64))
+        width(runs as u64) + (length + width(n as u64))
     }
 }
 
@@ -256,15 +263,13 @@ impl Part for Runs<'_> {
             return emitter.advance(self.length());
         }
         emitter.varint(self.count() as u64);
-        let count = self.spans.len() / 2;
         let mut last = Span::origin();
-        let mut k: usize = 0;
-        while k < count {
-            let next = self.span(k);
-            let end = self.run_end(k, next);
-            write_run(emitter, last, next, (end - k) as u64);
-            last = next;
-            k = end;
+        let mut rest = *self;
+        // Where the next run begins is found with each.
+        while let Some((run, after)) = rest.split_run() {
+            write_run(emitter, last, run);
+            last = run.span;
+            rest = after;
         }
     }
 }

@@ -1,3 +1,4 @@
+pub mod Tests
 pub mod Walk
 pub mod Leaf
 pub mod Payload

@@ -5,16 +5,15 @@ use Rattle.emit.specs.declared.Emitter.{Emitter}
 use Rattle.pool_index.specs.Strings.{pool_strings, distinct}
 use Rattle.write_code.specs.Runs.{Positions}
 use Rattle.write_rows.specs.Walk.{Walked}
-use Rattle.write_rows.specs.declared.Place.{Place}
 
 -- tables that can be written: no string stands twice in the pool, and spans are positions
 pub record Writable (store pool spans : List ℕ) : Type 0 where
   pub once : distinct (pool_strings store pool) ≡ true
   pub small : Positions spans
 
--- the bytes of w were emitted on the way from the place s to the place r, and the row and the span after them are those of w; the spans are so many
-pub record Reached (e e' : Emitter) (many : ℕ) (s r : Place) (w : Walked) : Type 0 where
+-- the bytes of w were emitted on the way to the row i and the span j, which are those after w; the spans are so many
+pub record Reached (e e' : Emitter) (many i j : ℕ) (w : Walked) : Type 0 where
   pub wrote : Emits e e' w.bytes
-  pub row : r.row ≡ w.row
-  pub span : r.span ≡ w.span
-  pub within : r.span ≤ many
+  pub row : i ≡ w.row
+  pub span : j ≡ w.span
+  pub within : j ≤ many

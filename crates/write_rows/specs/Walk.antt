@@ -1,6 +1,6 @@
 -- The bytes of rows, in the order in which the payload has them: what a row gives before the rows under it, and, for a closure, after the first of them.
 -- Every function is total: parts are cut to the store, and counts and spans to what the tables have.
-use Rattle.std.specs.Prelude.{List, [], ◌∷◌, ◌++◌, ℕ, zero, suc, ◌+◌, ◌-◌, ◌*◌, ◌/◌, ◌%◌, min, leb, ltb, eqb, length, get_or, take, drop}
+use Rattle.std.specs.Prelude.{List, [], ◌∷◌, ◌++◌, ℕ, zero, suc, ◌+◌, ◌-◌, ◌*◌, ◌/◌, ◌%◌, min, leb, ltb, eqb, length, take, drop}
 use Rattle.slices.specs.LittleEndian.{to_le_bytes}
 use Rattle.varint.specs.Uleb128.{uleb128}
 use Rattle.payload.specs.Choice.{when◌then◌else◌}
@@ -12,6 +12,7 @@ use Rattle.payload.specs.Spans.{Span, write_code}
 use Rattle.payload.specs.Writing.{tag_byte}
 use Rattle.pool_index.specs.Strings.{bytes_at, pool_strings}
 use Rattle.row_layout.specs.Layout.{first_form, second_form, second_word, under_form, count_word}
+use Rattle.row_layout.specs.Row.{row_word}
 
 -- what a walk reads: the store, the pool's strings, the words of the row table and of the span table
 pub record Held : Type 0 where
@@ -26,10 +27,6 @@ held store pool rows spans = record { store = store; pool = pool_strings store p
 abbrev pub row_count : List ℕ → ℕ
 row_count rows = length rows / row_width
 
--- word k of row i
-unfoldable pub row_word : List ℕ → ℕ → ℕ → ℕ
-row_word rows i k = when ltb k row_width then get_or rows (row_width * i + k) 0 else 0
-
 -- an item by its form
 unfoldable pub item_bytes : List ℕ → List (List ℕ) → List Span → ℕ → ℕ → ℕ → List ℕ
 item_bytes store pool spans form a b =
@@ -42,15 +39,15 @@ item_bytes store pool spans form a b =
     else when eqb form 7 then write_code (bytes_at store a b) spans
     else []
 
-abbrev pub tag_at : Held → ℕ → ℕ
-tag_at H i = row_word H.rows i 0
+abbrev pub tag_at : List ℕ → ℕ → ℕ
+tag_at rows i = row_word rows i 0
 
-abbrev pub count_at : Held → ℕ → ℕ
-count_at H i = row_word H.rows i (count_word (tag_at H i))
+abbrev pub count_at : List ℕ → ℕ → ℕ
+count_at rows i = row_word rows i (count_word (tag_at rows i))
 
 -- how many bytes of code a row has
 unfoldable pub code_length : Held → ℕ → ℕ
-code_length H i = when eqb (first_form (tag_at H i)) 7 then length (bytes_at H.store (row_word H.rows i 1) (row_word H.rows i 2)) else 0
+code_length H i = when eqb (first_form (tag_at H.rows i)) 7 then length (bytes_at H.store (row_word H.rows i 1) (row_word H.rows i 2)) else 0
 
 -- the span after those of a row
 unfoldable pub span_after : Held → ℕ → ℕ → ℕ
@@ -59,24 +56,27 @@ span_after H i j = min (j + code_length H i) (length H.spans / 2)
 unfoldable pub row_spans : Held → ℕ → ℕ → List Span
 row_spans H i j = spans_of (take (2 * span_after H i j - 2 * j) (drop (2 * j) H.spans))
 
--- a row's items and its count
+-- a row's items
+abbrev pub both_items : Held → ℕ → List Span → List ℕ
+both_items H i spans =
+    item_bytes H.store H.pool spans (first_form (tag_at H.rows i)) (row_word H.rows i 1) (row_word H.rows i 2)
+    ++ item_bytes H.store H.pool spans (second_form (tag_at H.rows i)) (row_word H.rows i (second_word (tag_at H.rows i))) (row_word H.rows i (second_word (tag_at H.rows i) + 1))
+
+-- and its count
 unfoldable pub items_bytes : Held → ℕ → List Span → List ℕ
-items_bytes H i spans =
-    (item_bytes H.store H.pool spans (first_form (tag_at H i)) (row_word H.rows i 1) (row_word H.rows i 2)
-    ++ item_bytes H.store H.pool spans (second_form (tag_at H i)) (row_word H.rows i (second_word (tag_at H i))) (row_word H.rows i (second_word (tag_at H i) + 1)))
-    ++ (when leb 2 (under_form (tag_at H i)) then uleb128 (count_at H i) else [])
+items_bytes H i spans = both_items H i spans ++ (when leb 2 (under_form (tag_at H.rows i)) then uleb128 (count_at H.rows i) else [])
 
 -- before the rows under it
 unfoldable pub head_bytes : Held → ℕ → List Span → List ℕ
-head_bytes H i spans = tag_byte (tag_at H i) ++ (when eqb (under_form (tag_at H i)) 4 then [] else items_bytes H i spans)
+head_bytes H i spans = tag_byte (tag_at H.rows i) ++ (when eqb (under_form (tag_at H.rows i)) 4 then [] else items_bytes H i spans)
 
 -- how many rows are under it; of a closure, after the first
-unfoldable pub rows_under : Held → ℕ → ℕ
-rows_under H i =
-    when eqb (under_form (tag_at H i)) 0 then 0
-    else when eqb (under_form (tag_at H i)) 1 then 1
-    else when eqb (under_form (tag_at H i)) 3 then 2 * min (count_at H i) (row_count H.rows)
-    else min (count_at H i) (row_count H.rows)
+unfoldable pub rows_under : List ℕ → ℕ → ℕ
+rows_under rows i =
+    when eqb (under_form (tag_at rows i)) 0 then 0
+    else when eqb (under_form (tag_at rows i)) 1 then 1
+    else when eqb (under_form (tag_at rows i)) 3 then 2 * min (count_at rows i) (row_count rows)
+    else min (count_at rows i) (row_count rows)
 
 -- bytes, and the row and the span after them
 pub record Walked : Type 0 where
@@ -95,12 +95,16 @@ unfoldable pub walk_times : (ℕ → ℕ → Walked) → ℕ → ℕ → ℕ →
 walk_times f zero i j = walked [] i j
 walk_times f (suc n) i j = and_walk (f i j) (walk_times f n)
 
+-- what a row gives before the rows under it, from the span where its own begin
+abbrev pub head_walk : Held → ℕ → ℕ → Walked
+head_walk H i j = walked (head_bytes H i (row_spans H i j)) (i + 1) (span_after H i j)
+
 -- a row and those under it, of which f gives so many
 unfoldable pub walk_row : Held → (ℕ → ℕ → ℕ → Walked) → ℕ → ℕ → Walked
-walk_row H f i j = and_walk (walked (head_bytes H i (row_spans H i j)) (i + 1) (span_after H i j))
-    (when eqb (under_form (tag_at H i)) 4
-    then (λ i' j'. and_walk (f 1 i' j') (λ i'' j''. and_walk (walked (items_bytes H i []) i'' j'') (f (rows_under H i))))
-    else f (rows_under H i))
+walk_row H f i j = and_walk (head_walk H i j)
+    (when eqb (under_form (tag_at H.rows i)) 4
+    then (λ i' j'. and_walk (f 1 i' j') (λ i'' j''. and_walk (walked (items_bytes H i []) i'' j'') (f (rows_under H.rows i))))
+    else f (rows_under H.rows i))
 
 -- nothing past the last row
 unfoldable pub walk_next : Held → (ℕ → ℕ → ℕ → Walked) → ℕ → ℕ → Walked

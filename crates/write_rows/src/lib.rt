@@ -16,15 +16,19 @@ ghost use Rattle.emit.specs.Emits.{Emits};
 ghost use Rattle.pool_index.specs.Held.{strings_of};
 ghost use Rattle.pool_index.specs.Strings.{bytes_at, distinct};
 ghost use Rattle.row_layout.specs.Layout.{under_form};
+ghost use Rattle.row_layout.specs.Number.{form_number};
+ghost use Rattle.row_layout.specs.Row.{row_word};
 ghost use Rattle.write_code.specs.Runs.{Positions};
 ghost use Rattle.write_rows.specs.Held.{CanWrite, tables_bytes};
 ghost use Rattle.write_rows.specs.Payload.{line_bytes, WrittenOut};
-ghost use Rattle.write_rows.specs.Walk.{row_count, row_word, item_bytes, items_bytes, head_bytes, span_after, rows_under, walk_row, walk};
+ghost use Rattle.write_rows.specs.Walk.{item_bytes, both_items, items_bytes, head_bytes, span_after, head_walk, rows_under, walk_row, walk};
 
 use emit::Emitter;
 use emit::parts::{Part, emit_part};
 use payload::{Program, Tables};
 use pool_index::Pool;
+use row_layout::row::Row;
+use row_layout::{Form, Under, tags};
 use write_code::{Code, Position, Runs};
 
 // A value is a row, or a row and one that has no value of its own; the outer chunk is one more.
@@ -48,7 +52,7 @@ fn zigzag_word(w: u64) -> u64
 fn write_tag(emitter: &mut Emitter, tag: u64)
     ensures { Emits emitter.old emitter.new (tag_byte tag) }
 {
-    if tag <= 26 {
+    if tag <= tags::LAST {
         emitter.byte(tag as u8);
     }
 }
@@ -61,26 +65,18 @@ fn write_chunk(emitter: &mut Emitter, code: &[u8], spans: Runs)
     emitter.part(&spans);
 }
 
-// Strings come in the pool's order: after the one that was expected the next is.
-fn expect_next(expected: usize, found: usize) -> usize {
-    if found == expected && expected < Program::SIZE {
-        return expected + 1;
-    }
-    expected
-}
-
-// An item that is neither a string nor code, by its form.
-fn write_number(form: u64, emitter: &mut Emitter, a: u64)
-    requires { (form ≡ 6 → ⊥) × (form ≡ 7 → ⊥) }
-    ensures { Emits emitter.old emitter.new (item_bytes [] [] [] form a 0) }
+// How many rows are under a row; of a closure, after the first. A count is cut to how many rows the table has, as no scan of the rows comes before a measure.
+fn rows_under(row: Row<'_>) -> u64
+    ensures { result ≡ rows_under row.entry.table.now row.entry.number }
 {
-    match form {
-        1 => emitter.varint(a),
-        2 => emitter.varint(zigzag_word(a)),
-        3 => emitter.byte((a % 256) as u8),
-        4 => emitter.little_endian(a, 8),
-        5 => emitter.little_endian(a, 4),
-        _ => {}
+    let tag = row.tag();
+    let rows = row.table.len() / Program::ROW_WIDTH;
+    let count = row.word(row_layout::count_word(tag)).min(rows as u64);
+    match row_layout::under_form(tag) {
+        Under::Nothing => 0,
+        Under::OneRow => 1,
+        Under::Counted | Under::Template => count,
+        Under::CountedPairs => 2 * count,
     }
 }
 
@@ -98,39 +94,18 @@ fn write_starts(emitter: &mut Emitter, starts: &[u32])
 
 // A program in tables, with the pool of its strings. It can be written: no string stands twice in the pool, and spans are positions.
 #[derive(Clone, Copy)]
-struct Writing<'a> {
+pub struct Writing<'a> {
     tables: Tables<'a>,
     pool: Pool<'a>,
-    ghost once: { distinct (strings_of pool) ≡ true },
-    ghost positions: { Positions tables.spans.now },
+    pub ghost once: { distinct (strings_of pool) ≡ true },
+    pub ghost positions: { Positions tables.spans.now },
 }
 
 impl Writing<'_> {
     ghost use Rattle.write_rows.specs.Reached.{Reached};
-    ghost use Rattle.write_rows.specs.Written.{held_in};
+    ghost use Rattle.write_rows.specs.Written.{held_in, held_at};
 
     // ---- a row's items
-
-    // A word of a row; 0 past its last. That there is such a row shows that there is a number after its own.
-    fn word(&self, i: usize, k: u64) -> u64
-        requires { i < row_count self.now.tables.rows.now }
-        ensures value { result ≡ row_word self.now.tables.rows.now i k }
-        ensures number { i < usize.MAX }
-    {
-        let word = k as usize;
-        if word < Program::ROW_WIDTH {
-            return self.tables.rows[Program::ROW_WIDTH * i + word];
-        }
-        0
-    }
-
-    // How many rows there are.
-    fn row_count(&self) -> usize
-        ensures value { result ≡ row_count self.now.tables.rows.now }
-        ensures small { 2 * result < usize.MAX }
-    {
-        self.tables.rows.len() / Program::ROW_WIDTH
-    }
 
     // The spans from one on to another.
     fn runs(&self, from: usize, to: usize) -> Runs<'_>
@@ -145,6 +120,7 @@ impl Writing<'_> {
     }
 
     // A string's index. Where it is only measured its length counts: among at most 127 strings every index has one byte, and is not looked for.
+    // The answer is the index that the next string is expected to have: strings come in the pool's order.
     fn write_index(&self, emitter: &mut Emitter, expected: usize, o: u64, n: u64) -> usize
         ensures { Emits emitter.old emitter.new (uleb128 (index_of (bytes_at self.now.pool.store.now o n) (strings_of self.now.pool))) }
     {
@@ -154,174 +130,154 @@ impl Writing<'_> {
         }
         let k = pool_index::lookup(self.pool.store, self.pool.words, expected, o, n);
         emitter.varint(k as u64);
-        expect_next(expected, k)
+        if k == expected {
+            return k.saturating_add(1);
+        }
+        expected
     }
 
-    // An item by its form, with the spans of its row. The answer is the pool index that the next string is expected to have.
+    // An item that is no string, by its form, with the spans of its row. A call, so that what stands before it is one test: the jump by the form is often guessed wrong.
+    #[inline(never)]
+    fn write_other_item(&self, form: Form, emitter: &mut Emitter, spans: Runs, a: u64, b: u64)
+        requires { form ≡ Form.Text → ⊥ }
+        ensures { Emits emitter.old emitter.new (item_bytes self.now.pool.store.now (strings_of self.now.pool) (spans_of spans.entry.spans.now) (form_number form) a b) }
+    {
+        match form {
+            Form::NoItem | Form::Text => {}
+            Form::Varint => emitter.varint(a),
+            Form::Zigzag => emitter.varint(zigzag_word(a)),
+            Form::Byte => emitter.byte((a % 256) as u8),
+            Form::EightBytes => emitter.little_endian(a, 8),
+            Form::FourBytes => emitter.little_endian(a, 4),
+            Form::Code => write_chunk(emitter, pool_index::bytes_at(self.pool.store, a, b), spans),
+        }
+    }
+
+    // An item by its form, with the spans of its row. The answer is the index that the next string is expected to have.
     fn write_item(
         &self,
-        form: u64,
+        form: Form,
         emitter: &mut Emitter,
         expected: usize,
         spans: Runs,
         a: u64,
         b: u64,
     ) -> usize
-        ensures { Emits emitter.old emitter.new (item_bytes self.now.pool.store.now (strings_of self.now.pool) (spans_of spans.entry.spans.now) form a b) }
+        ensures { Emits emitter.old emitter.new (item_bytes self.now.pool.store.now (strings_of self.now.pool) (spans_of spans.entry.spans.now) (form_number form) a b) }
     {
-        if form == 6 {
+        if let Form::Text = form {
             return self.write_index(emitter, expected, a, b);
         }
-        if form == 7 {
-            write_chunk(emitter, pool_index::bytes_at(self.pool.store, a, b), spans);
-            return expected;
-        }
-        write_number(form, emitter, a);
+        self.write_other_item(form, emitter, spans, a, b);
         expected
     }
 
-    // What a row gives besides its tag: its items, and its count where it has one.
-    fn write_items(&self, emitter: &mut Emitter, expected: usize, spans: Runs, i: usize) -> usize
-        requires { i < row_count self.now.tables.rows.now }
-        ensures { Emits emitter.old emitter.new (items_bytes (held_in self.now) i (spans_of spans.entry.spans.now)) }
+    // A row's items, with the spans of its code. Inlined, since most rows are nothing but their items, and the call would be a fifth of their instructions.
+    #[inline(always)]
+    fn write_both_items(
+        &self,
+        emitter: &mut Emitter,
+        row: Row<'_>,
+        spans: Runs,
+        expected: usize,
+    ) -> usize
+        ensures { Emits emitter.old emitter.new (both_items (held_at self.now row.entry) row.entry.number (spans_of spans.entry.spans.now)) }
     {
-        let tag = self.word(i, 0);
+        let tag = row.tag();
         let first = row_layout::first_form(tag);
-        let second_expected = self.write_item(
-            first,
-            emitter,
-            expected,
-            spans,
-            self.word(i, 1),
-            self.word(i, 2),
-        );
+        let next = self.write_item(first, emitter, expected, spans, row.word(1), row.word(2));
         let second = row_layout::second_form(tag);
+        if second == Form::NoItem {
+            return next;
+        }
         let w = row_layout::second_word(tag);
-        let next = self.write_item(
-            second,
-            emitter,
-            second_expected,
-            spans,
-            self.word(i, w),
-            self.word(i, w + 1),
-        );
-        if 2 <= row_layout::under_form(tag) {
-            emitter.varint(self.word(i, row_layout::count_word(tag)));
+        self.write_item(second, emitter, next, spans, row.word(w), row.word(w + 1))
+    }
+
+    // What a row gives besides its tag: its items, and its count where it has one.
+    fn write_items(
+        &self,
+        emitter: &mut Emitter,
+        row: Row<'_>,
+        spans: Runs,
+        expected: usize,
+    ) -> usize
+        ensures { Emits emitter.old emitter.new (items_bytes (held_at self.now row.entry) row.entry.number (spans_of spans.entry.spans.now)) }
+    {
+        let next = self.write_both_items(emitter, row, spans, expected);
+        let tag = row.tag();
+        match row_layout::under_form(tag) {
+            Under::Nothing | Under::OneRow => {}
+            Under::Counted | Under::CountedPairs | Under::Template => {
+                emitter.varint(row.word(row_layout::count_word(tag)));
+            }
         }
         next
     }
 
-    // What a row gives before the rows under it.
-    fn write_head(&self, emitter: &mut Emitter, expected: usize, spans: Runs, i: usize) -> usize
-        requires { i < row_count self.now.tables.rows.now }
-        ensures { Emits emitter.old emitter.new (head_bytes (held_in self.now) i (spans_of spans.entry.spans.now)) }
-    {
-        let tag = self.word(i, 0);
-        write_tag(emitter, tag);
-        if row_layout::under_form(tag) == 4 {
-            return expected;
-        }
-        self.write_items(emitter, expected, spans, i)
-    }
-
-    // A row with nothing under it: its tag, and its items, none of which is code.
-    fn write_leaf(&self, emitter: &mut Emitter, place: Place) -> Place
-        requires { (place.row < row_count self.now.tables.rows.now) × (under_form (row_word self.now.tables.rows.now place.row 0) ≡ 0) }
-        ensures emitted { Emits emitter.old emitter.new (head_bytes (held_in self.now) place.row []) }
-        ensures row_value { (result.row ≡ place.row + 1) × (result.span ≡ place.span) }
-    {
-        let i = place.row;
-        let tag = self.word(i, 0);
-        write_tag(emitter, tag);
-        let none = self.runs(0, 0);
-        let first = row_layout::first_form(tag);
-        let expected = self.write_item(
-            first,
-            emitter,
-            place.expected,
-            none,
-            self.word(i, 1),
-            self.word(i, 2),
-        );
-        let second = row_layout::second_form(tag);
-        if second == 0 {
-            return Place {
-                row: i + 1,
-                span: place.span,
-                expected,
-            };
-        }
-        let w = row_layout::second_word(tag);
-        let next = self.write_item(
-            second,
-            emitter,
-            expected,
-            none,
-            self.word(i, w),
-            self.word(i, w + 1),
-        );
-        Place {
-            row: i + 1,
-            span: place.span,
-            expected: next,
-        }
-    }
-
     // The span after those of a row.
-    fn span_after(&self, i: usize, j: usize) -> usize
-        requires i_bound { i < row_count self.now.tables.rows.now }
-        requires j_in_bounds { j ≤ length self.now.tables.spans.now / 2 }
-        ensures { result ≡ span_after (held_in self.now) i j }
+    fn span_after(&self, row: Row<'_>, j: usize) -> usize
+        requires { j ≤ length self.now.tables.spans.now / 2 }
+        ensures value { result ≡ span_after (held_at self.now row.entry) row.entry.number j }
+        ensures within { (j ≤ result) × (result ≤ length self.now.tables.spans.now / 2) }
     {
-        let tag = self.word(i, 0);
-        if row_layout::first_form(tag) == 7 {
-            let code = pool_index::bytes_at(self.pool.store, self.word(i, 1), self.word(i, 2));
+        if row_layout::first_form(row.tag()) == Form::Code {
+            let code = pool_index::bytes_at(self.pool.store, row.word(1), row.word(2));
             return j + code.len().min(self.tables.spans.len() / 2 - j);
         }
         j
     }
 
-    // How many rows are under a row; of a closure, after the first.
-    fn rows_under(&self, i: usize) -> u64
-        requires { i < row_count self.now.tables.rows.now }
-        ensures { result ≡ rows_under (held_in self.now) i }
+    // What a row gives before the rows under it, from the span where its own begin.
+    fn write_head(&self, emitter: &mut Emitter, row: Row<'_>, span: usize, expected: usize) -> Place
+        requires { span ≤ length self.now.tables.spans.now / 2 }
+        ensures { Reached emitter.old emitter.new (length self.now.tables.spans.now / 2) result.row result.span
+            (head_walk (held_at self.now row.entry) row.entry.number span) }
     {
-        let tag = self.word(i, 0);
-        let under = row_layout::under_form(tag);
-        if under == 0 {
-            return 0;
+        let after = self.span_after(row, span);
+        let tag = row.tag();
+        write_tag(emitter, tag);
+        let next = if row_layout::under_form(tag) == Under::Template {
+            expected
+        } else {
+            self.write_items(emitter, row, self.runs(span, after), expected)
+        };
+        Place {
+            row: row.number + 1,
+            span: after,
+            expected: next,
         }
-        if under == 1 {
-            return 1;
-        }
-        let n = pool_index::cut(self.word(i, row_layout::count_word(tag)), self.row_count()) as u64;
-        if under == 3 {
-            return 2 * n;
-        }
-        n
+    }
+
+    // A row with nothing under it: its tag, and its items, none of which is code.
+    fn write_leaf(&self, emitter: &mut Emitter, row: Row<'_>, expected: usize) -> usize
+        requires { under_form (row_word row.table.now row.number 0) ≡ 0 }
+        ensures { Emits emitter.old emitter.new (head_bytes (held_at self.now row.entry) row.entry.number []) }
+    {
+        write_tag(emitter, row.tag());
+        self.write_both_items(emitter, row, self.runs(0, 0), expected)
     }
 
     // ---- the walk: a row, and so many rows, each with those under them
 
     #[cycle(rows)]
-    fn write_row(&self, depth: usize, emitter: &mut Emitter, place: Place) -> Place
-        requires { (place.row < row_count self.now.tables.rows.now) × (place.span ≤ length self.now.tables.spans.now / 2) }
-        ensures { Reached emitter.old emitter.new (length self.now.tables.spans.now / 2) place result
-            (walk_row (held_in self.now) (walk (held_in self.now) depth) place.row place.span) }
+    fn write_row(
+        &self,
+        depth: usize,
+        emitter: &mut Emitter,
+        row: Row<'_>,
+        span: usize,
+        expected: usize,
+    ) -> Place
+        requires { (row.table.now ≡ self.now.tables.rows.now) × (span ≤ length self.now.tables.spans.now / 2) }
+        ensures { Reached emitter.old emitter.new (length self.now.tables.spans.now / 2) result.row result.span
+            (walk_row (held_in self.now) (walk (held_in self.now) depth) row.entry.number span) }
     {
-        let i = place.row;
-        let tag = self.word(i, 0);
-        let after = self.span_after(i, place.span);
-        let head = self.write_head(emitter, place.expected, self.runs(place.span, after), i);
-        let n = self.rows_under(i);
-        let next = Place {
-            row: i + 1,
-            span: after,
-            expected: head,
-        };
-        if row_layout::under_form(tag) == 4 {
+        let next = self.write_head(emitter, row, span, expected);
+        let n = rows_under(row);
+        if row_layout::under_form(row.tag()) == Under::Template {
             let mid = self.write_rows(depth, emitter, 1, next);
-            let expected = self.write_items(emitter, mid.expected, self.runs(0, 0), i);
+            let expected = self.write_items(emitter, row, self.runs(0, 0), mid.expected);
             return self.write_rows(depth, emitter, n, Place { expected, ..mid });
         }
         if n == 0 {
@@ -333,7 +289,7 @@ impl Writing<'_> {
     #[cycle(rows)]
     fn write_rows(&self, depth: usize, emitter: &mut Emitter, count: u64, place: Place) -> Place
         requires { place.span ≤ length self.now.tables.spans.now / 2 }
-        ensures { Reached emitter.old emitter.new (length self.now.tables.spans.now / 2) place result
+        ensures { Reached emitter.old emitter.new (length self.now.tables.spans.now / 2) result.row result.span
             (walk (held_in self.now) depth count place.row place.span) }
     {
         if depth == 0 {
@@ -342,13 +298,14 @@ impl Writing<'_> {
         let under = depth - 1;
         let mut here = place;
         for _k in 0..count {
-            if self.row_count() <= here.row {
+            let Some(row) = Row::of(self.tables.rows, here.row) else {
                 return here;
-            }
-            if row_layout::under_form(self.word(here.row, 0)) == 0 {
-                here = self.write_leaf(emitter, here);
+            };
+            if row_layout::under_form(row.tag()) == Under::Nothing {
+                here.expected = self.write_leaf(emitter, row, here.expected);
+                here.row += 1;
             } else {
-                here = self.write_row(under, emitter, here);
+                here = self.write_row(under, emitter, row, here.span, here.expected);
             }
         }
         here
@@ -411,47 +368,44 @@ impl Part for Writing<'_> {
     }
 }
 
-// The payload of tables into an output, or compared with one that is expected: the place after it.
-fn write_all(out: &mut [u8], expected: Option<&[u8]>, tables: &Tables, pool: &[u64]) -> usize
-    requires room { length out.old ≤ output_limit (is_some expected) }
-    requires writable { CanWrite tables.now pool.now }
-    ensures { Emitted (is_some expected.entry) (bytes_of expected.entry) out.old out.new 0 result (tables_bytes tables.now pool.now) }
-{
-    let strings = Pool {
-        store: tables.store,
-        words: pool,
-    };
-    let writing = Writing {
-        tables: *tables,
-        pool: strings,
-    };
-    emit_part(out, expected, &writing)
-}
+impl<'a> Writing<'a> {
+    ghost use Rattle.write_rows.specs.Written.{writing_bytes};
 
-// How long the payload is: one more than the size limit where it is above that.
-pub fn measure(tables: &Tables, pool: &[u64]) -> usize
-    requires { CanWrite tables.now pool.now }
-    ensures { result ≡ further 0 (length (tables_bytes tables.now pool.now)) }
-{
-    let mut none = [0u8; 0];
-    write_all(&mut none, None, tables, pool)
-}
+    // The writing of tables with the pool of their strings.
+    pub fn of(tables: Tables<'a>, pool: &'a [u64]) -> Writing<'a>
+        requires { CanWrite tables pool.now }
+        ensures { writing_bytes result ≡ tables_bytes tables.entry pool.now }
+    {
+        let strings = Pool {
+            store: tables.store,
+            words: pool,
+        };
+        Writing {
+            tables,
+            pool: strings,
+        }
+    }
 
-// Whether the payload of the tables is this one.
-pub fn agrees(payload: &[u8], tables: &Tables, pool: &[u64]) -> bool
-    requires payload_len_bound { length payload.now ≤ size_limit }
-    requires writable { CanWrite tables.now pool.now }
-    ensures { result ≡ same (tables_bytes tables.now pool.now) payload.now }
-{
-    let mut none = [0u8; 0];
-    write_all(&mut none, Some(payload), tables, pool) == payload.len()
-}
+    // How long the payload is: one more than the size limit where it is above that.
+    pub fn measure(&self) -> usize
+        ensures { result ≡ further 0 (length (writing_bytes self.now)) }
+    {
+        emit_part(&mut [], None, self)
+    }
 
-// The payload into an output that has room for it; what follows stays.
-pub fn write_out(out: &mut [u8], tables: &Tables, pool: &[u64]) -> usize
-    requires room { (length (tables_bytes tables.now pool.now) ≤ length out.old) × (length out.old ≤ size_limit) }
-    requires writable { CanWrite tables.now pool.now }
-    ensures { WrittenOut (tables_bytes tables.now pool.now) out.old out.new result }
-{
-    write_all(out, None, tables, pool)
+    // Whether this is the payload.
+    pub fn agrees(&self, payload: &[u8]) -> bool
+        requires { length payload.now ≤ size_limit }
+        ensures { result ≡ same (writing_bytes self.now) payload.now }
+    {
+        emit_part(&mut [], Some(payload), self) == payload.len()
+    }
+
+    // The payload into an output that has room for it; what follows stays.
+    pub fn write_out(&self, out: &mut [u8]) -> usize
+        requires { (length (writing_bytes self.now) ≤ length out.old) × (length out.old ≤ size_limit) }
+        ensures { WrittenOut (writing_bytes self.now) out.old out.new result }
+    {
+        emit_part(out, None, self)
+    }
 }

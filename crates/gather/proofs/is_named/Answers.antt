@@ -5,11 +5,12 @@ use Rattle.pool_index.specs.Laws.Strings.{length_strings}
 use Rattle.pool_index.specs.Strings.{pool_strings}
 use Rattle.gather.proofs.is_named.Goals as goal
 
-pub returns-then-rows-at-eq-RECORD : goal.returns-then-rows-at-eq-RECORD
-returns-then-rows-at-eq-RECORD c =
+pub returns-then-tag-eq-RECORD : goal.returns-then-tag-eq-RECORD
+returns-then-tag-eq-RECORD c =
     let args = c.args in
-    in_by_index _ (pool_strings args.store.now args.pool.now) c.lookup.result _ c.lookup.ensures (sym (length_strings args.store.now args.pool.now))
-    ∙ named_record args.store.now (pool_strings args.store.now args.pool.now) args.rows.now args.at c.if-rows-at-eq-RECORD.true
+    let pool = pool_strings args.store.now args.pool.now in
+    in_by_index _ pool c.lookup.result _ (rw (c.word.ensures, c.word-then-tag-eq-RECORD.ensures) at c.lookup.ensures) (sym (length_strings args.store.now args.pool.now))
+    ∙ named_record args.store.now pool args.row.table.now args.row.number (sym c.tag.ensures ∙ c.if-tag-eq-RECORD.true)
 
 pub returns : goal.returns
-returns c = named_other c.args.store.now _ c.args.rows.now c.args.at c.if-rows-at-eq-RECORD.false
+returns c = named_other c.args.store.now _ c.args.row.table.now c.args.row.number (rw c.tag.ensures at c.if-tag-eq-RECORD.false)

@@ -3,7 +3,7 @@ use Rattle.std.proofs.Common.{refl, take-append-drop, ◌≡◌, List, ℕ, ◌*
 use Rattle.slices.specs.Laws.LittleEndian.{Bytes}
 use Rattle.payload.specs.declared.Counts.{Counts}
 use Rattle.house.specs.Written.{AcceptedRead}
-use Rattle.house.specs.Laws.Written.{WasRead, was_read, not_consumed, not_positions, others_met, all_met, not_once, pool_parts, is_sound, table_gathered, writing_is}
+use Rattle.house.specs.Laws.Written.{WasRead, was_read, not_consumed, not_positions, others_met, all_met, not_once, pool_parts, is_sound, store_short, table_gathered, writing_is}
 use Rattle.house.proofs.is_house_written.Goals as goal
 
 in_bytes : (p : List ℕ) → ((i : ℕ) → Fits w8 (get_or p i 0)) → Bytes p
@@ -20,27 +20,15 @@ pub returns-then-counts-payload-clause-value : goal.returns-then-counts-payload-
 returns-then-counts-payload-clause-value c =
     let bytes = in_bytes c.args.payload.now c.type_inv.payload in not_consumed (was_read c.requires bytes) bytes (λ q. omega arith)
 
-pub overflow_mul-rows_end : goal.overflow_mul-rows_end
-overflow_mul-rows_end c = omega (arith, (payload_read c.requires c.type_inv.payload).rows_fit)
-
-pub overflow_mul-spans_end : goal.overflow_mul-spans_end
-overflow_mul-spans_end c = omega (arith, (payload_read c.requires c.type_inv.payload).spans_fit)
+pub in_tables-tables-requires : goal.in_tables-tables-requires
+in_tables-tables-requires c = let left = payload_read c.requires c.type_inv.payload in rw c.from.ensures (left.rows_fit, left.spans_fit, left.starts_fit)
 
 pub overflow_mul-pool_end : goal.overflow_mul-pool_end
 overflow_mul-pool_end c = omega (arith, (payload_read c.requires c.type_inv.payload).strings_fit)
 
-pub slice_bounds-tables-end : goal.slice_bounds-tables-end
-slice_bounds-tables-end c = sym (length-take-le _ c.args.rows.now (payload_read c.requires c.type_inv.payload).rows_fit)
-
-pub slice_bounds-tables-end-2 : goal.slice_bounds-tables-end-2
-slice_bounds-tables-end-2 c = sym (length-take-le _ c.args.spans.now (payload_read c.requires c.type_inv.payload).spans_fit)
-
-pub slice_bounds-tables-end-3 : goal.slice_bounds-tables-end-3
-slice_bounds-tables-end-3 c = sym (length-take-le _ c.args.starts.now (payload_read c.requires c.type_inv.payload).starts_fit)
-
 pub returns-then-not-are_positions-clause-value : goal.returns-then-not-are_positions-clause-value
 returns-then-not-are_positions-clause-value c =
-    let bytes = in_bytes c.args.payload.now c.type_inv.payload in not_positions (was_read c.requires bytes) bytes c.if-not-are_positions.ensures
+    let bytes = in_bytes c.args.payload.now c.type_inv.payload in not_positions (was_read c.requires bytes) bytes c.from.ensures c.in_tables-tables.ensures c.if-not-are_positions.ensures
 
 pub slice_bounds-strings_met-end : goal.slice_bounds-strings_met-end
 slice_bounds-strings_met-end c = (payload_read c.requires c.type_inv.payload).strings_fit
@@ -51,7 +39,7 @@ slice_bounds-strings_met-end-2 c = sym (length-take-le _ c.args.pool.now (payloa
 pub returns-then-ne-clause-value : goal.returns-then-ne-clause-value
 returns-then-ne-clause-value c =
     let bytes = in_bytes c.args.payload.now c.type_inv.payload in
-    others_met (was_read c.requires bytes) bytes (sym c.if-not-are_positions.ensures) _ (rw c.from-program.ensures at c.strings_met.ensures) c.if-ne.ensures
+    others_met (was_read c.requires bytes) bytes c.from.ensures c.in_tables-tables.ensures (sym c.if-not-are_positions.ensures) _ c.strings_met.ensures c.if-ne.ensures
 
 pub are_distinct-requires : goal.are_distinct-requires
 are_distinct-requires c = let bytes = in_bytes c.args.payload.now c.type_inv.payload in pool_parts (was_read c.requires bytes) bytes
@@ -64,25 +52,26 @@ pub returns-then-not-are_distinct-clause-pool_unchanged : goal.returns-then-not-
 returns-then-not-are_distinct-clause-pool_unchanged c = restored _ _ c.are_distinct.ensures.pool_unchanged
 
 pub is_writing-requires-clause-payload_len_bound : goal.is_writing-requires-clause-payload_len_bound
-is_writing-requires-clause-payload_len_bound c = (payload_read c.requires c.type_inv.payload).short
+is_writing-requires-clause-payload_len_bound c =
+    let bytes = in_bytes c.args.payload.now c.type_inv.payload in store_short (was_read c.requires bytes) bytes c.from.ensures c.in_tables-tables.ensures
 
 pub is_writing-requires-clause-script : goal.is_writing-requires-clause-script
 is_writing-requires-clause-script c =
-    let bytes = in_bytes c.args.payload.now c.type_inv.payload in rw c.from-program.ensures (is_sound (was_read c.requires bytes) bytes (sym c.if-not-are_positions.ensures))
+    let bytes = in_bytes c.args.payload.now c.type_inv.payload in is_sound (was_read c.requires bytes) bytes c.from.ensures c.in_tables-tables.ensures (sym c.if-not-are_positions.ensures)
 
 pub is_writing-requires-clause-pool_value : goal.is_writing-requires-clause-pool_value
 is_writing-requires-clause-pool_value c =
     let bytes = in_bytes c.args.payload.now c.type_inv.payload in
-    rw c.from-program.ensures
-    (ap (take (2 * c.args.counts.strings)) (restored _ _ c.are_distinct.ensures.pool_unchanged)
-    ∙ table_gathered (was_read c.requires bytes) bytes (sym c.if-not-are_positions.ensures)
-    (all_met (was_read c.requires bytes) bytes (sym c.if-not-are_positions.ensures) _ (rw c.from-program.ensures at c.strings_met.ensures) c.if-ne.ensures) refl
-    (sym c.if-not-are_distinct.ensures.value))
+    let left = was_read c.requires bytes in
+    let sound = sym c.if-not-are_positions.ensures in
+    ap (take (2 * c.args.counts.strings)) (restored _ _ c.are_distinct.ensures.pool_unchanged)
+    ∙ table_gathered left bytes c.from.ensures c.in_tables-tables.ensures sound
+    (all_met left bytes c.from.ensures c.in_tables-tables.ensures sound _ c.strings_met.ensures c.if-ne.ensures) refl (sym c.if-not-are_distinct.ensures.value)
 
 pub returns-clause-value : goal.returns-clause-value
 returns-clause-value c =
     let bytes = in_bytes c.args.payload.now c.type_inv.payload in
-    (rw c.from-program.ensures at c.is_writing.ensures) ∙ writing_is (was_read c.requires bytes) bytes (sym c.if-not-are_positions.ensures) (omega arith)
+    c.is_writing.ensures ∙ writing_is (was_read c.requires bytes) bytes c.from.ensures c.in_tables-tables.ensures (sym c.if-not-are_positions.ensures) (omega arith)
 
 pub returns-clause-pool_unchanged : goal.returns-clause-pool_unchanged
 returns-clause-pool_unchanged c = restored _ _ c.are_distinct.ensures.pool_unchanged

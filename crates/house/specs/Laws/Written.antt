@@ -34,9 +34,10 @@ use Rattle.payload.specs.Sound.{Tables, is_nil, script_of, tables}
 use Rattle.payload.specs.Spans.{Span, small_spans}
 use Rattle.payload.specs.Tables.{capacities_of, counts_of, line_flag, line_name, line_starts, parts_words, read_answer, reading, size_limit, span_words, tables_of, used_pool, used_rows, used_spans, used_starts}
 use Rattle.payload.specs.Trees.{LineIndex, Script, forget_line, forget_node, forget_script, single, start_count}
-use Rattle.payload.specs.Write.{interned_parts}
+use Rattle.payload.specs.Write.{held_tables, interned_parts}
 use Rattle.payload.specs.Writing.{gathered, pool_of}
 use Rattle.payload.specs.declared.Counts.{Counts}
+use Rattle.payload.specs.declared.Program.{Program}
 use Rattle.refusal.specs.Answer as read
 use Rattle.pool_index.specs.Laws.Distinct.{interned_distinct}
 use Rattle.pool_index.specs.Strings.{bytes_at, distinct, pool_strings}
@@ -83,9 +84,9 @@ unfolding read_answer
 accepted_ok n (ok u s) e = (u, s, refl, cc)
 accepted_ok n (refused m q) e = let z : ◌≡◌ {A = ℕ} 0 1 = cc in absurd (omega arith)
 
--- the used words of a table that holds them and then zeros
-used_words_lem : (table used : List ℕ) (n : ℕ) → table ≡ pad_to (length table) used → length used ≡ n → take n table ≡ used
-used_words_lem table used n e l = ap (take n) e ∙ take_at used _ n l
+-- the used words of a table that a read left, with zeros behind them
+used_words_lem : (table : List ℕ) (used : Result Payload → List ℕ) (n : ℕ) {x y : Result Payload} → table ≡ pad_to (length table) (used x) → x ≡ y → length (used y) ≡ n → take n table ≡ used y
+used_words_lem table used n {x} {y} left e l = ap (take n) (left ∙ ap (λ (z : Result Payload). pad_to (length table) (used z)) e) ∙ take_at (used y) _ n l
 
 start_count_lem : (u : Payload) → start_count (forget_line u.script.line) ≡ length (line_starts u.script.line)
 start_count_lem u = go u.script.line
@@ -93,9 +94,6 @@ start_count_lem u = go u.script.line
     go : (x : Option (LineIndex Part)) → start_count (forget_line x) ≡ length (line_starts x)
     go none = unfold start_count forget_line line_starts in refl
     go (some x) = unfold start_count forget_line line_starts in refl
-
-abbrev pub read_tables : List ℕ → Counts → List ℕ → List ℕ → List ℕ → Tables
-read_tables p n rows spans starts = tables p (take (row_width * n.rows) rows) (take (2 * n.spans) spans) (take n.starts starts) (program_of n).flag (program_of n).name_o (program_of n).name_n
 
 pub record WasRead (names p rows spans starts pool : List ℕ) (n : Counts) : Type 0 where
   pub u : Payload
@@ -106,8 +104,7 @@ pub record WasRead (names p rows spans starts pool : List ℕ) (n : Counts) : Ty
   pub has : ReadIs (capacities_of (length rows) (length spans) (length starts) (length pool)) p (is_listed names) u s
   pub consumed : n.consumed ≡ s.place
   pub strings : n.strings ≡ length u.pool
-  pub spans_are : take (2 * n.spans) spans ≡ span_words (span_table (single u.script.outer))
-  pub tables_are : read_tables p n rows spans starts ≡ tables_of p u.script
+  pub tables_are : held_tables p (program_of n) rows spans starts ≡ tables_of p u.script
   pub pool_is : take (2 * n.strings) pool ≡ parts_words u.pool
   pub rows_fit : row_width * n.rows ≤ length rows
   pub spans_fit : 2 * n.spans ≤ length spans
@@ -119,7 +116,7 @@ module _ {names p rows spans starts pool : List ℕ} {n : Counts} (h : AcceptedR
   c = capacities_of (length rows) (length spans) (length starts) (length pool)
 
   pub was_read : WasRead names p rows spans starts pool n
-  unfolding capacities_of used_rows used_spans used_starts used_pool tables_of forget_script
+  unfolding capacities_of used_rows used_spans used_starts used_pool held_tables tables_of forget_script
   was_read =
       let a = accepted_ok n (reading c names p) h.left.answer in
       let u = a.0 in
@@ -135,13 +132,10 @@ module _ {names p rows spans starts pool : List ℕ} {n : Counts} (h : AcceptedR
       let flag-n : flag_of n.name ≡ line_flag u.script.line = ap (λ (m : Counts). flag_of m.name) a.3 ∙ flag_of_line u.script.line in
       let offset-n : offset_of n.name ≡ (line_name u.script.line).offset = ap (λ (m : Counts). offset_of m.name) a.3 ∙ offset_of_line u.script.line in
       let length-n : length_of n.name ≡ length (line_name u.script.line).bytes = ap (λ (m : Counts). length_of m.name) a.3 ∙ length_of_line u.script.line in
-      let r : take (row_width * n.rows) rows ≡ row_table ts = used_words_lem rows (row_table ts) (row_width * n.rows) (h.left.rows_are ∙ ap (λ (x : Result Payload). pad_to (length rows) (used_rows x)) e) (omega (arith, rows_counted f)) in
-      let q : take (2 * n.spans) spans ≡ span_words (span_table ts) = used_words_lem spans (span_words (span_table ts)) (2 * n.spans) (h.left.spans_are ∙ ap (λ (x : Result Payload). pad_to (length spans)
-      (used_spans x)) e) (omega (arith, spans_counted f)) in
-      let t : take n.starts starts ≡ line_starts u.script.line = used_words_lem starts (line_starts u.script.line) n.starts (h.left.starts_are ∙ ap (λ (x : Result Payload). pad_to
-      (length starts) (used_starts x)) e) (sym starts-n) in
-      let v : take (2 * n.strings) pool ≡ parts_words u.pool = used_words_lem pool (parts_words u.pool) (2 * n.strings) (h.left.pool_is ∙ ap (λ (x : Result Payload). pad_to (length pool)
-      (used_pool x)) e) (omega (arith, length_parts_words u.pool)) in
+      let r : take (row_width * n.rows) rows ≡ row_table ts = used_words_lem rows used_rows (row_width * n.rows) h.left.rows_are e (omega (arith, rows_counted f)) in
+      let q : take (2 * n.spans) spans ≡ span_words (span_table ts) = used_words_lem spans used_spans (2 * n.spans) h.left.spans_are e (omega (arith, spans_counted f)) in
+      let t : take n.starts starts ≡ line_starts u.script.line = used_words_lem starts used_starts n.starts h.left.starts_are e (sym starts-n) in
+      let v : take (2 * n.strings) pool ≡ parts_words u.pool = used_words_lem pool used_pool (2 * n.strings) h.left.pool_is e (omega (arith, length_parts_words u.pool)) in
       record {
         u = u;
         s = s;
@@ -151,7 +145,6 @@ module _ {names p rows spans starts pool : List ℕ} {n : Counts} (h : AcceptedR
         has = f;
         consumed = ap (λ (m : Counts). m.consumed) a.3;
         strings = strings-n;
-        spans_are = q;
         tables_are = λ i. tables p (r i) (q i) (t i) (flag-n i) (offset-n i) (length-n i);
         pool_is = v;
         rows_fit = omega (arith, f.rows_are, f.rows_fit);
@@ -169,9 +162,6 @@ not_false false e = false≢true e
 module _ {names p rows spans starts pool : List ℕ} {n : Counts} (w : WasRead names p rows spans starts pool n) (bytes : Bytes p) where
   abbrev caps : Capacities
   caps = capacities_of (length rows) (length spans) (length starts) (length pool)
-
-  abbrev T : Tables
-  T = read_tables p n rows spans starts
 
   abbrev passes : Bool
   passes = is_ok (house caps names p)
@@ -196,30 +186,6 @@ module _ {names p rows spans starts pool : List ℕ} {n : Counts} (w : WasRead n
       let r = read_back caps (small_capacities _ _ _ _) (is_listed names) p _ (writing_read e) in
       let q : r.1 ≡ w.s = cc (r.2, w.payload_read) in
       f (w.consumed ∙ ap (λ (z : State). z.place) (sym q) ∙ r.4))
-
-  pub not_positions : false ≡ all_positions (take (2 * n.spans) spans) → false ≡ passes
-  unfolding forget_script
-  not_positions f = refutes (λ e.
-      let a = small_span_table (single w.u.script.outer) (rw (single_bytes w.u.script.outer) (writing_read e).sound.items_sound) in
-      false≢true (f ∙ ap all_positions w.spans_are ∙ positions_are _ ∙ a))
-
-  -- the tables are sound, and hold the script that was read
-  sound_tables : all_positions (take (2 * n.spans) spans) ≡ true → (z : State) × (script_of T ≡ ok w.u.script z)
-  unfolding forget_script forget_node
-  sound_tables e =
-      let u = w.u.script in
-      let small : small_spans (span_table (single u.outer)) ≡ true = sym (positions_are _) ∙ ap all_positions (sym w.spans_are) ∙ e in
-      let sound : SoundScript (forget_script u) = record {
-        outer_is_chunk = w.has.outer_tag;
-        obeys = w.has.obeys;
-        items_sound = rw (← single_bytes u.outer) (small_trees (single u.outer) (rw (single_bytes u.outer) w.has.items) small);
-        line_sound_lem = w.has.line;
-      } in
-      let g = holds_sound (tables_of p u) u (read_holds caps p (is_listed names) bytes w.u w.s w.payload_read) sound in
-      (g.0, ap script_of w.tables_are ∙ g.1)
-
-  pub is_sound : all_positions (take (2 * n.spans) spans) ≡ true → is_ok (script_of T) ≡ true
-  is_sound e = let g = sound_tables e in is_ok_lem _ _ _ g.1
 
   -- the pool that was read is the one that gathering gives
   pool_of_passed : passes ≡ true → interned_parts [] (gathered w.u.script) ≡ w.u.pool
@@ -252,66 +218,106 @@ module _ {names p rows spans starts pool : List ℕ} {n : Counts} (w : WasRead n
   pub not_once : false ≡ distinct (pool_strings p (take (2 * n.strings) pool)) → false ≡ passes
   not_once f = refutes (λ e. false≢true (f ∙ ap distinct table_strings ∙ once_passed e))
 
-  module _ (a : all_positions (take (2 * n.spans) spans) ≡ true) where
-    -- the strings that rows and name give
-    abbrev found : List Part
-    found = rows_parts T.store (length T.rows / row_width) T.rows ++ name_parts T.store T.flag T.name_offset T.name_length
+  all_read : n.consumed ≡ length p → is_nil w.s.rest ≡ true
+  unfolding is_nil
+  all_read e = let q : w.s.place ≡ length p = sym w.consumed ∙ e in ap is_nil (w.has.place_is ∙ ap (λ (k : ℕ). drop k p) q ∙ drop-length p)
 
-    found_is : found ≡ gathered w.u.script
-    found_is = let g = sound_tables a in strings_found T w.u.script g.0 g.1
+  -- the tables are lent to their last used words
+  module _ {T : Tables} {g : Program} (gives : g ≡ program_of n) (held : T ≡ held_tables p g rows spans starts) where
+    tables_read : T ≡ tables_of p w.u.script
+    tables_read = held ∙ ap (λ (x : Program). held_tables p x rows spans starts) gives ∙ w.tables_are
 
-    met_is : {r : ℕ} → Met (take (2 * n.strings) pool) 0 found r → r ≡ meet_all (parts_words w.u.pool) 0 (gathered w.u.script)
-    met_is m = m.is ∙ ap₂ (λ (l : List ℕ) (xs : List Part). meet_all l 0 xs) w.pool_is found_is
+    store_read : T.store ≡ p
+    unfolding tables_of
+    store_read = ap (λ (U : Tables). U.store) tables_read
 
-    pub not_met : {r : ℕ} → Met (take (2 * n.strings) pool) 0 found r → (r ≡ n.strings → ⊥) → false ≡ passes
-    not_met m ne = refutes (λ e. ne (met_is m ∙ interned_order w.u.pool pool_rising (once_passed e) (gathered w.u.script) pool_entries (pool_of_passed e) ∙ sym w.strings))
+    spans_read : T.spans ≡ span_words (span_table (single w.u.script.outer))
+    unfolding tables_of
+    spans_read = ap (λ (U : Tables). U.spans) tables_read
 
-    -- a string comes too early
-    pub none_met : Meets (take (2 * n.strings) pool) 0 found None → false ≡ passes
-    none_met m = not_met m (λ e. omega (arith, length-take-le (2 * n.strings) pool w.strings_fit))
+    pub store_short : length T.store ≤ size_limit
+    store_short = rw store_read w.short
 
-    -- as the code tests it: the entries met are those of the pool, or they are not
-    pub all_met : (m : std.Option ℕ) → Meets (take (2 * n.strings) pool) 0 found m → false ≡ not (option_eq eqb m (Some n.strings)) → Met (take (2 * n.strings) pool) 0 found n.strings
-    all_met None m e = false≢true e
-    all_met (Some r) m e = rw (eqb-true _ _ (not_false _ e)) at m.0
+    pub not_positions : false ≡ all_positions T.spans → false ≡ passes
+    unfolding forget_script
+    not_positions f = refutes (λ e.
+        let a = small_span_table (single w.u.script.outer) (rw (single_bytes w.u.script.outer) (writing_read e).sound.items_sound) in
+        false≢true (f ∙ ap all_positions spans_read ∙ positions_are _ ∙ a))
 
-    pub others_met : (m : std.Option ℕ) → Meets (take (2 * n.strings) pool) 0 found m → true ≡ not (option_eq eqb m (Some n.strings)) → false ≡ passes
-    others_met None m e = none_met m
-    others_met (Some r) m e = not_met m.0 (λ q. false≢true (sym (e ∙ ap not (eq-eqb _ _ q))))
+    -- the tables are sound, and hold the script that was read
+    sound_tables : all_positions T.spans ≡ true → (z : State) × (script_of T ≡ ok w.u.script z)
+    unfolding forget_script forget_node
+    sound_tables e =
+        let u = w.u.script in
+        let small : small_spans (span_table (single u.outer)) ≡ true = sym (positions_are _) ∙ ap all_positions (sym spans_read) ∙ e in
+        let sound : SoundScript (forget_script u) = record {
+          outer_is_chunk = w.has.outer_tag;
+          obeys = w.has.obeys;
+          items_sound = rw (← single_bytes u.outer) (small_trees (single u.outer) (rw (single_bytes u.outer) w.has.items) small);
+          line_sound_lem = w.has.line;
+        } in
+        let g = holds_sound (tables_of p u) u (read_holds caps p (is_listed names) bytes w.u w.s w.payload_read) sound in
+        (g.0, ap script_of tables_read ∙ g.1)
 
-    -- strings that differ and are first used in the pool's order: the pool table is the one that gathering gives
-    pub table_gathered : {r : ℕ} → Met (take (2 * n.strings) pool) 0 found r → r ≡ n.strings → distinct (pool_strings p (take (2 * n.strings) pool)) ≡ true → take (2 * n.strings) pool ≡ pool_words (script_of T)
-    unfolding pool_words
-    table_gathered m f d =
-        let g = sound_tables a in
-        let once : distinct (bytes_of w.u.pool) ≡ true = ap distinct (sym table_strings) ∙ d in
-        let i = order_interned w.u.pool pool_rising once (gathered w.u.script) pool_entries (sym (met_is m) ∙ f ∙ w.strings) in
-        w.pool_is ∙ ap parts_words (sym i) ∙ ap pool_words (sym g.1)
+    pub is_sound : all_positions T.spans ≡ true → is_ok (script_of T) ≡ true
+    is_sound e = let g = sound_tables e in is_ok_lem _ _ _ g.1
 
-    all_read : n.consumed ≡ length p → is_nil w.s.rest ≡ true
-    unfolding is_nil
-    all_read e = let q : w.s.place ≡ length p = sym w.consumed ∙ e in ap is_nil (w.has.place_is ∙ ap (λ (k : ℕ). drop k p) q ∙ drop-length p)
+    module _ (a : all_positions T.spans ≡ true) where
+      -- the strings that rows and name give
+      abbrev found : List Part
+      found = rows_parts T.store (length T.rows / row_width) T.rows ++ name_parts T.store T.flag T.name_offset T.name_length
 
-    to_passes : n.consumed ≡ length p → is_writing (script_of T) p ≡ true → passes ≡ true
-    unfolding is_writing house_written house checked when◌then◌else◌ is_ok
-    to_passes k e =
-        let g = sound_tables a in
-        let d : is_writing (ok w.u.script g.0) p ≡ true = ap (λ (x : Result (Script Part)). is_writing x p) (sym g.1) ∙ e in
-        let sound : is_ok (script_of (tables_of p w.u.script)) ≡ true = ap (λ (U : Tables). is_ok (script_of U)) (sym w.tables_are) ∙ is_sound a in
-        let t : house_written p w.u w.s ≡ true = and_both (all_read k) (and_both sound d) in
-        rw (w.is, t)
+      found_is : found ≡ gathered w.u.script
+      found_is = let g = sound_tables a in strings_found T w.u.script g.0 g.1
 
-    to_writing : passes ≡ true → is_writing (script_of T) p ≡ true
-    unfolding is_writing
-    to_writing e =
-        let g = sound_tables a in
-        let i = writing_read e in
-        rw g.1 (and_both (is_named _ i.named) (rw i.its_writing (same_refl p)))
+      met_is : {r : ℕ} → Met (take (2 * n.strings) pool) 0 found r → r ≡ meet_all (parts_words w.u.pool) 0 (gathered w.u.script)
+      met_is m = m.is ∙ ap₂ (λ (l : List ℕ) (xs : List Part). meet_all l 0 xs) w.pool_is found_is
 
-    pub writing_is : n.consumed ≡ length p → is_writing (script_of T) p ≡ passes
-    writing_is k = go (is_writing (script_of T) p) refl passes refl
-      where
-        go : (b : Bool) → is_writing (script_of T) p ≡ b → (t : Bool) → passes ≡ t → is_writing (script_of T) p ≡ passes
-        go true q t r = q ∙ sym (to_passes k q)
-        go false q true r = to_writing r ∙ sym r
-        go false q false r = q ∙ sym r
+      pub not_met : {r : ℕ} → Met (take (2 * n.strings) pool) 0 found r → (r ≡ n.strings → ⊥) → false ≡ passes
+      not_met m ne = refutes (λ e. ne (met_is m ∙ interned_order w.u.pool pool_rising (once_passed e) (gathered w.u.script) pool_entries (pool_of_passed e) ∙ sym w.strings))
+
+      -- a string comes too early
+      pub none_met : Meets (take (2 * n.strings) pool) 0 found None → false ≡ passes
+      none_met m = not_met m (λ e. omega (arith, length-take-le (2 * n.strings) pool w.strings_fit))
+
+      -- as the code tests it: the entries met are those of the pool, or they are not
+      pub all_met : (m : std.Option ℕ) → Meets (take (2 * n.strings) pool) 0 found m → false ≡ not (option_eq eqb m (Some n.strings)) → Met (take (2 * n.strings) pool) 0 found n.strings
+      all_met None m e = false≢true e
+      all_met (Some r) m e = rw (eqb-true _ _ (not_false _ e)) at m.0
+
+      pub others_met : (m : std.Option ℕ) → Meets (take (2 * n.strings) pool) 0 found m → true ≡ not (option_eq eqb m (Some n.strings)) → false ≡ passes
+      others_met None m e = none_met m
+      others_met (Some r) m e = not_met m.0 (λ q. false≢true (sym (e ∙ ap not (eq-eqb _ _ q))))
+
+      -- strings that differ and are first used in the pool's order: the pool table is the one that gathering gives
+      pub table_gathered : {r : ℕ} → Met (take (2 * n.strings) pool) 0 found r → r ≡ n.strings → distinct (pool_strings p (take (2 * n.strings) pool)) ≡ true → take (2 * n.strings) pool ≡ pool_words (script_of T)
+      unfolding pool_words
+      table_gathered m f d =
+          let g = sound_tables a in
+          let once : distinct (bytes_of w.u.pool) ≡ true = ap distinct (sym table_strings) ∙ d in
+          let i = order_interned w.u.pool pool_rising once (gathered w.u.script) pool_entries (sym (met_is m) ∙ f ∙ w.strings) in
+          w.pool_is ∙ ap parts_words (sym i) ∙ ap pool_words (sym g.1)
+
+      to_passes : n.consumed ≡ length p → is_writing (script_of T) p ≡ true → passes ≡ true
+      unfolding is_writing house_written house checked when◌then◌else◌ is_ok
+      to_passes k e =
+          let g = sound_tables a in
+          let d : is_writing (ok w.u.script g.0) p ≡ true = ap (λ (x : Result (Script Part)). is_writing x p) (sym g.1) ∙ e in
+          let sound : is_ok (script_of (tables_of p w.u.script)) ≡ true = ap (λ (U : Tables). is_ok (script_of U)) (sym tables_read) ∙ is_sound a in
+          let t : house_written p w.u w.s ≡ true = and_both (all_read k) (and_both sound d) in
+          rw (w.is, t)
+
+      to_writing : passes ≡ true → is_writing (script_of T) p ≡ true
+      unfolding is_writing
+      to_writing e =
+          let g = sound_tables a in
+          let i = writing_read e in
+          rw g.1 (and_both (is_named _ i.named) (rw i.its_writing (same_refl p)))
+
+      pub writing_is : n.consumed ≡ length p → is_writing (script_of T) T.store ≡ passes
+      writing_is k = ap (is_writing (script_of T)) store_read ∙ go (is_writing (script_of T) p) refl passes refl
+        where
+          go : (b : Bool) → is_writing (script_of T) p ≡ b → (t : Bool) → passes ≡ t → is_writing (script_of T) p ≡ passes
+          go true q t r = q ∙ sym (to_passes k q)
+          go false q true r = to_writing r ∙ sym r
+          go false q false r = q ∙ sym r

@@ -43,18 +43,18 @@ module _ {p rows : List ℕ} {first own gap skip i : ℕ} (s : Searched p rows f
 
 pub returns-then-same_key : goal.returns-then-same_key
 returns-then-same_key c =
-    let loop = c.loop-i in
-    hit loop.invariant loop.auto.i c.loop-i-test.true c.if-skip-eq0.true (sym c.same_key.ensures ∙ c.if-same_key.true)
+    let loop = c.loop-number in
+    hit loop.invariant loop.auto.number c.loop-number-test.true c.if-skip-eq0.true (sym c.same_key.ensures ∙ c.if-same_key.true)
 
-pub loop-i-preserved : goal.loop-i-preserved
-loop-i-preserved c =
-    let loop = c.loop-i in
+pub loop-number-preserved : goal.loop-number-preserved
+loop-number-preserved c =
+    let loop = c.loop-number in
     let pre = c.requires in
     elim c.if-skip-eq0.branch [
       | then-skip-eq0+else-same_key w ↦ rw w.skip-is
-          (miss loop.invariant loop.auto.i c.loop-i-test.true w.if-skip-eq0.true (sym w.same_key.ensures ∙ w.if-same_key.false) pre.3)
-      | else-skip-eq0 w ↦ rw w.skip-is (past loop.invariant loop.auto.i c.loop-i-test.true w.if-skip-eq0.false _ w.rows_told.ensures.0 w.rows_told.ensures.1)
+          (miss loop.invariant loop.auto.number c.loop-number-test.true w.if-skip-eq0.true (sym w.same_key.ensures ∙ w.if-same_key.false) pre.2)
+      | else-skip-eq0 w ↦ rw w.skip-is (past loop.invariant loop.auto.number c.loop-number-test.true w.if-skip-eq0.false _ w.rows_told.ensures.told w.rows_told.ensures.bound)
     ]
 
 pub returns : goal.returns
-returns c = sym (c.loop-i.invariant.found ∙ seen_end _ _ _ _ _ _ _ c.loop-i-test.false)
+returns c = sym (c.loop-number.invariant.found ∙ seen_end _ _ _ _ _ _ _ c.loop-number-test.false)

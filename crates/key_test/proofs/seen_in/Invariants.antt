@@ -1,3 +1,4 @@
+-- The invariant of the search through the rows in `seen_in`.
 use Rattle.payload.specs.Rows.{row_width}
 use Rattle.key_test.specs.Keys.{most_rows, seen_in}
 use Prim.Native.Nat.{ℕ, ◌+◌, ◌-◌, ◌*◌, ◌≤◌}
@@ -13,5 +14,5 @@ pub record Searched (p rows : List ℕ) (first own gap skip i : ℕ) : Type 0 wh
       seen_in p (drop (row_width * own) rows) gap 0 (own - first) (drop (row_width * first) rows)
       ≡ seen_in p (drop (row_width * own) rows) gap skip (own - i) (drop (row_width * i) rows)
 
-abbrev pub invariant-loop-i : goal.invariant-loop-i
-invariant-loop-i l = Searched l.bytes l.rows l.first l.own l.gap l.skip l.i
+abbrev pub invariant-loop-number : goal.invariant-loop-number
+invariant-loop-number l = Searched l.bytes l.own.table.now l.first l.own.number l.gap l.skip l.number

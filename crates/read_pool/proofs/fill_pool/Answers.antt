@@ -1,4 +1,5 @@
 -- `fill_pool` meets its contract: the count of the strings, then the strings.
+use Rattle.std.proofs.Common.{arith}
 use Rattle.payload.specs.Reading.{read_pool}
 use Rattle.refusal.specs.Laws.Errors.{same_error}
 use Rattle.cursor.specs.Laws.Advances.{stop_reads}
@@ -10,4 +11,4 @@ unfolding read_pool
 returns-in_err-count c = rw (same_error c.from_residual.result _ c.from_residual.ensures.1) (record { outcome = stop_reads _ c.in_err-count.ensures })
 
 pub returns : goal.returns
-returns c = pool_read c.in_ok-count.ensures c.requires c.read_strings.ensures
+returns c = pool_read c.in_ok-count.ensures (omega arith) c.read_strings.ensures

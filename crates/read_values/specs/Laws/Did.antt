@@ -148,3 +148,11 @@ module _ {capacities : Capacities} {p : List ℕ} where
       Ran many_trees capacities p a b a' b' i j s vs x → Ran many_trees capacities p b c b' c' s.rows s.spans z ts y → (v : Result (Trees Part)) →
       v ≡ ok (joined vs ts) (state_of p z) → Ran many_trees capacities p a c a' c' i j z (joined vs ts) v
   ran_joined {vs = vs} {ts = ts} g h = ran_then (joined vs ts) (joined_rows vs ts) (joined_span_words vs ts) (joined_told vs ts) g h
+
+  -- a tree in front of the trees that a reader gives
+  pub did_front : {a b c a' b' c' : List ℕ} {i j : ℕ} {s : State} {t : Node Part} {r : Step} {x : Result (Node Part)} {y : Result (Trees Part)} →
+      Ran one_tree capacities p a b a' b' i j s t x → Did many_trees capacities p b c b' c' s.rows s.spans r y →
+      Did many_trees capacities p a c a' c' i j r (and_then y (λ ts. pure (cons t ts)))
+  unfolding and_then pure
+  did_front {r = Err e} g d = record { out = rw d.out }
+  did_front {t = t} {r = Ok z} g d = record { out = (cons t d.out.0, ran_more g d.out.1 _ (rw d.out.1.is)) }

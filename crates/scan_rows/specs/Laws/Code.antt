@@ -1,8 +1,8 @@
 -- The bytes of code of a table's rows are those of the trees that it holds.
-use Rattle.std.specs.Prelude.{Bool, ◌||◌, ◌≡◌, eqb, drop, get_or, length}
+use Rattle.std.specs.Prelude.{Bool, ◌||◌, ◌≡◌, eqb, drop, get_or, length, if◌then◌else◌}
 use Rattle.std.proofs.Math.Bool.{false, true}
 use mathlib.Core.List.{List, [], ◌++◌, ◌∷◌, append_assoc, append-nil}
-use Rattle.std.proofs.Common.{◌∙◌, ap, ap₂, sym, add_comm, add-zero, zero-add, arith, drop_at, drop-drop, get_or-drop, eq-eqb, eqb-true, ne_eqb}
+use Rattle.std.proofs.Common.{◌∙◌, ap, ap₂, sym, add-zero, zero-add, arith, drop_at, drop-drop, get_or-drop, eq-eqb, eqb-true, ne_eqb}
 use Rattle.std.proofs.Math.Path.{refl}
 use Prim.Native.Nat.{◌*◌, ◌+◌, ◌-◌, ◌<◌, ◌≤◌, suc, ℕ}
 use Rattle.std.proofs.lemmas.Bool.{eqb-false}
@@ -81,13 +81,13 @@ chunk_items (code l ss ∷ i ∷ is) e = false≢true (and_right (same_kind Item
 
 -- the code of a row, by its words
 code_of : List ℕ → ℕ
-code_of ws = when◌then◌else◌ (eqb (get_or ws 0 0) 32) (get_or ws 2 0) 0
+code_of ws = if eqb (get_or ws 0 0) 32 then get_or ws 2 0 else 0
 
 row_code : (t : ℕ) (is : List (Item Part)) (n : ℕ) (ws : List ℕ) → same_kinds (kinds_of (shape t)) (forget_items is) ≡ true → code_of (row_words t is n ++ ws) ≡ span_items (forget_items is)
-unfolding code_of row_words when◌then◌else◌
+unfolding code_of row_words
 row_code t is n ws e = go (eqb t 32) refl
   where
-    go : (b : Bool) → eqb t 32 ≡ b → when◌then◌else◌ b (get_or (row_words t is n ++ ws) 2 0) 0 ≡ span_items (forget_items is)
+    go : (b : Bool) → eqb t 32 ≡ b → (if b then get_or (row_words t is n ++ ws) 2 0 else 0) ≡ span_items (forget_items is)
     go false q = sym (no_spans (kinds_of (shape t)) is e (code_only t (eqb-false t 32 q)))
     go true q = let f = rw (eqb-true t 32 q) at e in let c = chunk_items is (unfold shape kinds_of when◌then◌else◌ in f) in
         rw c.2 (unfold items_words item_words part_words forget_items forget_item span_items span_item in (sym (add-zero _)))
@@ -143,9 +143,6 @@ unfolding code_total
 no_rows n ws e = rw e
 
 module _ {rows : List ℕ} {count : ℕ} where
-  pub covered_start : Covered rows count 0 count
-  covered_start = let e : row_count rows - 0 ≡ row_count rows = omega arith in record { upto = omega arith; sum = rw e (add_comm (code_total (row_count rows) rows) count) }
-
   pub covered_next : {i left n : ℕ} → Covered rows count i left → i < row_count rows → n ≡ code_at rows i → n ≤ left → Covered rows count (i + 1) (left - n)
   covered_next {i} {left} {n} c h e l = let f = next_code rows i h in record { upto = omega arith; sum = omega (arith, c.sum) }
 

@@ -6,18 +6,18 @@ use Rattle.std.proofs.Math.Path.{ap, refl, sym}
 use Prim.Native.Nat.{◌%◌, ◌+◌, ◌-◌, ◌<◌, ◌^◌, ◌≤◌, suc, ℕ}
 use native.Mathlib.Omega.{arith}
 use Rattle.std.proofs.Math.Dec.{eqb, leb, ltb}
-use borrow.Author.Tests.{eq-eqb, eqb-true, le-leb, le-ltb, leb-false, leb-true, lt-leb, lt-ltb, ltb-false, ltb-true, ne_eqb}
+use borrow.Author.Tests.{eq-eqb, eqb-true, le-leb, le-ltb, leb-true, lt-ltb, ltb-false, ltb-true, ne_eqb}
 use Rattle.payload.specs.Choice.{◌and◌, ◌or◌, when◌then◌else◌}
 use Rattle.payload.specs.Laws.Pool.{false≢true}
 use Rattle.payload.specs.Numbers.{NumberKind, bool, char, f32, f64, fits_kind, fits_signed, handle, i16, i32, i64, i8, is_scalar, u16, u32, u64, u8}
 use Rattle.payload.specs.Rows.{kind_width, kinds_width, row_width}
-use Rattle.payload.specs.Shapes.{ItemKind, is_key_tag, kinds_of, no_value, shape, shapes, with_kids}
+use Rattle.payload.specs.Shapes.{ItemKind, kinds_of, no_value, shape, shapes, with_kids}
 use Rattle.row_layout.specs.Laws.Layout.{all_from, shape_all}
 use Rattle.row_layout.specs.Layout.{after_first, count_word, first_test, first_test_of, item_test, kids_rules, number_test, second_test, second_test_of, second_word, shape_rules, under_rules, used_words}
 use Rattle.signed.specs.Laws.Signed.{cut_high, cut_low}
 use Rattle.signed.specs.Signed.{signed_of, word_of}
 use Rattle.scan_rows.specs.Fits.{number_fits, words_fit}
-use Rattle.scan_rows.specs.Row.{item_fits, items_fit, key_fits, row_count, row_fits, tag_at, word_at, zeros_from}
+use Rattle.scan_rows.specs.Row.{item_fits, items_fit, row_fits, tag_at, word_at, zeros_from}
 
 same_test : (a b : ℕ) (t : Bool) → (t ≡ true → a ≡ b) → (a ≡ b → t ≡ true) → eqb a b ≡ t
 same_test a b true f g = eq-eqb a b (f refl)
@@ -113,31 +113,25 @@ and_true true false = refl
 and_true false b = refl
 
 -- at most two items: the first, and the second where it begins
-items_are : (store rows : List ℕ) (i : ℕ) (ks : List ItemKind) → length ks ≤ 2 → ((k : ℕ) → word_at rows i k < 2 ^ 64)
-    → items_fit store rows i 1 ks ≡ (words_fit store (first_test_of ks) (word_at rows i 1) (word_at rows i 2) and words_fit store (second_test_of ks) (word_at rows i (after_first ks)) (word_at rows i (after_first ks + 1)))
+items_are : (store rows : List ℕ) (i : ℕ) (ks : List ItemKind) → length ks ≤ 2 → word_at rows i 1 < 2 ^ 64 → word_at rows i (after_first ks) < 2 ^ 64
+    → items_fit store rows i 1 ks
+    ≡ (words_fit store (first_test_of ks) (word_at rows i 1) (word_at rows i 2)
+    and words_fit store (second_test_of ks) (word_at rows i (after_first ks)) (word_at rows i (after_first ks + 1)))
 unfolding items_fit first_test_of second_test_of after_first
-items_are store rows i [] h w = rw (no_test store (word_at rows i 1) (word_at rows i 2)) (unfold ◌and◌ in refl)
-items_are store rows i (k ∷ []) h w = rw (item_is store k (word_at rows i 1) (word_at rows i 2) (w 1), no_test)
-items_are store rows i (k ∷ l ∷ []) h w = rw (item_is store k (word_at rows i 1) (word_at rows i 2) (w 1), item_is store l (word_at rows i (1 + kind_width k)) (word_at rows i (1 + kind_width k + 1)) (w (1 + kind_width k))) (and_true _ _)
-items_are store rows i (k ∷ l ∷ m ∷ ks) h w = absurd (omega arith)
+items_are store rows i [] h v w = rw (no_test store (word_at rows i 1) (word_at rows i 2)) (unfold ◌and◌ in refl)
+items_are store rows i (k ∷ []) h v w = rw (item_is store k (word_at rows i 1) (word_at rows i 2) v, no_test)
+items_are store rows i (k ∷ l ∷ []) h v w =
+    rw (item_is store k (word_at rows i 1) (word_at rows i 2) v, item_is store l (word_at rows i (1 + kind_width k)) (word_at rows i (1 + kind_width k + 1)) w) (and_true _ _)
+items_are store rows i (k ∷ l ∷ m ∷ ks) h v w = absurd (omega arith)
 
-module _ (store rows : List ℕ) (i : ℕ) (w : (k : ℕ) → word_at rows i k < 2 ^ 64) where
-  pub row_fits_is : row_fits store rows i
-      ≡ ((words_fit store (first_test (tag_at rows i)) (word_at rows i 1) (word_at rows i 2)
-      and words_fit store (second_test (tag_at rows i)) (word_at rows i (second_word (tag_at rows i))) (word_at rows i (second_word (tag_at rows i) + 1)))
-      and zeros_from rows i (used_words (tag_at rows i)) (row_width - used_words (tag_at rows i)))
-  unfolding row_fits first_test second_test second_word
-  row_fits_is = rw (items_are store rows i (kinds_of (shape (tag_at rows i))) (few_kinds (tag_at rows i)) w)
+-- where the first item is unfit, so are the items
+first_decides : (store rows : List ℕ) (i : ℕ) (ks : List ItemKind) → word_at rows i 1 < 2 ^ 64 → words_fit store (first_test_of ks) (word_at rows i 1) (word_at rows i 2) ≡ false
+    → items_fit store rows i 1 ks ≡ false
+unfolding items_fit first_test_of ◌and◌
+first_decides store rows i [] v e = false≢true (sym e ∙ no_test store (word_at rows i 1) (word_at rows i 2))
+first_decides store rows i (k ∷ ks) v e = rw (sym (item_is store k (word_at rows i 1) (word_at rows i 2) v) ∙ e)
 
 ---- what the code's tests say
-
--- a sum tested without making it
-pub leb_after : (o n e : ℕ) → o ≤ e → leb n (e - o) ≡ leb (o + n) e
-leb_after o n e h = go (leb n (e - o)) refl
-  where
-    go : (b : Bool) → leb n (e - o) ≡ b → b ≡ leb (o + n) e
-    go true q = sym (le-leb (o + n) e (omega (arith, leb-true n (e - o) q)))
-    go false q = sym (lt-leb (o + n) e (omega (arith, leb-false n (e - o) q)))
 
 module _ (rows : List ℕ) (i k : ℕ) where
   pub zeros_more : k < row_width → word_at rows i k ≡ 0 → zeros_from rows i k (row_width - k) ≡ zeros_from rows i (k + 1) (row_width - (k + 1))
@@ -152,40 +146,27 @@ module _ (rows : List ℕ) (i k : ℕ) where
   unfolding zeros_from
   zeros_end h = let z : row_width - k ≡ 0 = omega arith in rw z
 
-module _ (store rows : List ℕ) (i : ℕ) (w : (k : ℕ) → word_at rows i k < 2 ^ 64) {t : ℕ} (et : t ≡ tag_at rows i) where
-  pub first_unfit : {f a b : ℕ} → f ≡ first_test t → a ≡ word_at rows i 1 → b ≡ word_at rows i 2 → words_fit store f a b ≡ false → row_fits store rows i ≡ false
-  unfolding ◌and◌
-  first_unfit {f} {a} {b} ef ea eb x =
+-- a row's tag is t; a and b are words of its first item, c and d those of its second, which stands at word w
+module _ (store rows : List ℕ) (i : ℕ) {t : ℕ} (et : t ≡ tag_at rows i) {f a b : ℕ} (ef : f ≡ first_test t) (ea : a ≡ word_at rows i 1) (eb : b ≡ word_at rows i 2) (la : a < 2 ^ 64) where
+  pub first_unfit : words_fit store f a b ≡ false → row_fits store rows i ≡ false
+  unfolding row_fits first_test ◌and◌
+  first_unfit x =
       let y : words_fit store (first_test (tag_at rows i)) (word_at rows i 1) (word_at rows i 2) ≡ false = rw (← et, ← ef, ← ea, ← eb) x in
-      row_fits_is store rows i w ∙ rw y
+      rw (first_decides store rows i (kinds_of (shape (tag_at rows i))) (rw ea at la) (unfold first_test in y))
 
-  pub second_unfit : {f a b g c d : ℕ} → f ≡ first_test t → a ≡ word_at rows i 1 → b ≡ word_at rows i 2 → words_fit store f a b ≡ true
-      → g ≡ second_test t → c ≡ word_at rows i (second_word t) → d ≡ word_at rows i (second_word t + 1) → words_fit store g c d ≡ false → row_fits store rows i ≡ false
-  unfolding ◌and◌
-  second_unfit {f} {a} {b} {g} {c} {d} ef ea eb x eg ec ed x' =
-      let y : words_fit store (first_test (tag_at rows i)) (word_at rows i 1) (word_at rows i 2) ≡ true = rw (← et, ← ef, ← ea, ← eb) x in
-      let z : words_fit store (second_test (tag_at rows i)) (word_at rows i (second_word (tag_at rows i))) (word_at rows i (second_word (tag_at rows i) + 1)) ≡ false = rw (← et, ← eg, ← ec, ← ed) x' in
-      row_fits_is store rows i w ∙ rw (y, z)
-
-  pub items_fit_lem : {f a b g c d u : ℕ} → f ≡ first_test t → a ≡ word_at rows i 1 → b ≡ word_at rows i 2 → words_fit store f a b ≡ true
-      → g ≡ second_test t → c ≡ word_at rows i (second_word t) → d ≡ word_at rows i (second_word t + 1) → words_fit store g c d ≡ true → u ≡ used_words t → row_fits store rows i ≡ zeros_from rows i u (row_width - u)
-  unfolding ◌and◌
-  items_fit_lem {f} {a} {b} {g} {c} {d} {u} ef ea eb x eg ec ed x' eu =
-      let y : words_fit store (first_test (tag_at rows i)) (word_at rows i 1) (word_at rows i 2) ≡ true = rw (← et, ← ef, ← ea, ← eb) x in
-      let z : words_fit store (second_test (tag_at rows i)) (word_at rows i (second_word (tag_at rows i))) (word_at rows i (second_word (tag_at rows i) + 1)) ≡ true = rw (← et, ← eg, ← ec, ← ed) x' in
-      let v : used_words (tag_at rows i) ≡ u = sym (eu ∙ ap used_words et) in
-      row_fits_is store rows i w ∙ rw (y, z, v)
-
--- the second item begins at word 3 at most
-pub second_low : (t : ℕ) → second_word t ≤ 3
-unfolding second_word
-second_low t = leb-true _ _ (shape_all (λ t sh. leb (after_first (kinds_of sh)) 3) (unfold all_from shapes after_first kind_width kinds_of ◌and◌ in refl)
-    (unfold after_first kind_width kinds_of in refl) (unfold after_first kind_width kinds_of in refl) (λ t h. unfold after_first kinds_of in refl) t)
+  pub row_fits_is : {g w c d u : ℕ} → g ≡ second_test t → w ≡ second_word t → c ≡ word_at rows i w → d ≡ word_at rows i (w + 1) → c < 2 ^ 64 → u ≡ used_words t
+      → row_fits store rows i ≡ ((words_fit store f a b and words_fit store g c d) and zeros_from rows i u (row_width - u))
+  unfolding row_fits first_test second_test second_word
+  row_fits_is eg ew ec ed lc eu =
+      let one = rw ea at la in
+      let two = rw (ec, ew, et) at lc in
+      rw (ef, ea, eb, eg, ec, ed, ew, eu, et) (rw (items_are store rows i (kinds_of (shape (tag_at rows i))) (few_kinds (tag_at rows i)) one two))
 
 -- a row that has a count has it at word 4 at most
 pub count_low : (t : ℕ) → 2 ≤ under_rules t → count_word t ≤ 4
 unfolding under_rules count_word when◌then◌else◌
-count_low t h = leb-true _ _ (go (shape_all (λ t sh. when◌then◌else◌ (leb 2 (shape_rules sh)) (leb (1 + kinds_width (kinds_of sh)) 4) true) (unfold all_from shapes shape_rules kids_rules kinds_width kind_width kinds_of ◌and◌ in refl)
+count_low t h = leb-true _ _ (go (shape_all (λ t sh. when◌then◌else◌ (leb 2 (shape_rules sh)) (leb (1 + kinds_width (kinds_of sh)) 4) true)
+    (unfold all_from shapes shape_rules kids_rules kinds_width kind_width kinds_of ◌and◌ in refl)
     (unfold shape_rules kids_rules kinds_width kind_width kinds_of in refl) (unfold shape_rules kids_rules kinds_width kind_width kinds_of in refl) (λ t h. unfold shape_rules kids_rules in refl) t))
   where
     go : when◌then◌else◌ (leb 2 (shape_rules (shape t))) (leb (1 + kinds_width (kinds_of (shape t))) 4) true ≡ true → leb (1 + kinds_width (kinds_of (shape t))) 4 ≡ true
@@ -201,12 +182,3 @@ none_low t h = eqb-true _ _ (go (shape_all (λ t sh. when◌then◌else◌ (ltb 
 
     go : when◌then◌else◌ (ltb t 7) (eqb (shape_rules (shape t)) 0) true ≡ true → eqb (shape_rules (shape t)) 0 ≡ true
     go e = rw (lt-ltb t 7 h) at e
-
-module _ (store rows : List ℕ) (i : ℕ) (u : i < row_count rows) {t : ℕ} (et : t ≡ tag_at rows i) where
-  pub not_key_tag : is_key_tag t ≡ false → key_fits store rows i ≡ false
-  unfolding key_fits ◌and◌
-  not_key_tag e = rw (lt-ltb i (row_count rows) u) (rw (ap is_key_tag (sym et) ∙ e))
-
-  pub key_tag : is_key_tag t ≡ true → key_fits store rows i ≡ row_fits store rows i
-  unfolding key_fits ◌and◌
-  key_tag e = rw (lt-ltb i (row_count rows) u) (rw (ap is_key_tag (sym et) ∙ e))

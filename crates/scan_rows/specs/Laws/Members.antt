@@ -1,11 +1,11 @@
 -- What each function of the scan found, from what its callees found.
-use Rattle.std.specs.Prelude.{Bool, List, [], ◌∷◌, ◌≡◌, ◌+◌, ◌-◌, ◌<◌, ◌≤◌, suc, zero, ℕ, ltb, Ok, Err}
+use Rattle.std.specs.Prelude.{List, [], ◌∷◌, ◌≡◌, ◌+◌, ◌-◌, ◌<◌, ◌≤◌, suc, zero, ℕ, ltb, Ok, Err}
 use Rattle.std.proofs.Math.Bool.{false, true}
 use Rattle.std.proofs.Common.{◌∙◌}
 use Rattle.std.proofs.Math.Path.{ap, refl, sym}
 use native.Mathlib.Omega.{arith}
 use Rattle.std.proofs.Math.Dec.{eqb}
-use borrow.Author.Tests.{eq-eqb, eqb-false, eqb-true, le-leb, lt-leb, ltb-true, ne_eqb}
+use borrow.Author.Tests.{eqb-true, le-leb, lt-leb, ltb-true}
 use Rattle.payload.specs.Choice.{◌and◌, when◌then◌else◌}
 use Rattle.payload.specs.Laws.Pool.{and_left, and_right}
 use Rattle.payload.specs.Reader.{Part, Reader, ◌>>=◌, and_then, ok, pure}
@@ -23,7 +23,7 @@ use Rattle.scan_rows.specs.Laws.Steps.{leads_is, leads_made, leads_then}
 use Rattle.scan_rows.specs.Laws.Under.{skip_add, skip_row}
 use Rattle.scan_rows.specs.Laws.Value.{function_bad, function_is, untagged_bad, untagged_leads, value_leads, value_no_tag, value_unfit}
 use Rattle.scan_rows.specs.Row.{at_row, count_at, head_fits, is_tagged, row_count, row_fits, tag_at, word_at}
-use Rattle.scan_rows.specs.Under.{kids_under, rows_under, scan_chunk, scan_chunk_or_field, scan_field, scan_template, scan_under, shape_under}
+use Rattle.scan_rows.specs.Under.{kids_under, rows_under, scan_chunk, scan_field, scan_template, scan_under, shape_under}
 
 ---- a value
 
@@ -65,13 +65,15 @@ module _ (store rows : List ℕ) (b : WholeRows rows) (R : RowScan) (i : ℕ) wh
   unfolding shape when◌then◌else◌
   shape_33 = refl
 
-  pub untagged_unfit : {t m : ℕ} → 32 ≤ t → t ≤ 33 → head_fits store rows t i ≡ false → Scanned rows m i (Err (broken i)) (scan_chunk_or_field store R t (at_row rows i))
-  unfolding when◌then◌else◌
-  untagged_unfit {t} {m} l h f = go (eqb t 32) refl
-    where
-      go : (x : Bool) → eqb t 32 ≡ x → Scanned rows m i (Err (broken i)) (when◌then◌else◌ x (scan_chunk store R) (scan_field store R) (at_row rows i))
-      go true q = record { found = untagged_bad store rows i R 32 (ItemKind.code ∷ []) values shape_32 b.whole (rw (eqb-true t 32 q) at f) }
-      go false q = let k = eqb-false t 32 q in let e : t ≡ 33 = omega arith in record { found = untagged_bad store rows i R 33 (ItemKind.string ∷ []) one_value shape_33 b.whole (rw e at f) }
+  head_unfit : {m : ℕ} (t : ℕ) (kinds : List ItemKind) (kids : Kids) → shape t ≡ with_kids kinds kids → head_fits store rows t i ≡ false
+      → Scanned rows m i (Err (broken i)) (scan_untagged store R t kinds kids (at_row rows i))
+  head_unfit t kinds kids es f = record { found = untagged_bad store rows i R t kinds kids es b.whole f }
+
+  pub chunk_unfit : {m : ℕ} → head_fits store rows 32 i ≡ false → Scanned rows m i (Err (broken i)) (scan_chunk store R (at_row rows i))
+  chunk_unfit f = head_unfit 32 (ItemKind.code ∷ []) values shape_32 f
+
+  pub field_unfit : {m : ℕ} → head_fits store rows 33 i ≡ false → Scanned rows m i (Err (broken i)) (scan_field store R (at_row rows i))
+  field_unfit f = head_unfit 33 (ItemKind.string ∷ []) one_value shape_33 f
 
   under_32 : tag_at rows i ≡ 32 → (scan_under store R (shape (tag_at rows i)) (count_at rows i) ≡ read_many (word_at rows i 3) (R any_row)) × (rows_under rows i ≡ word_at rows i 3)
   unfolding scan_under scan_kids rows_under shape_under kids_under shape count_word kinds_of kinds_width kind_width when◌then◌else◌
@@ -82,38 +84,21 @@ module _ (store rows : List ℕ) (b : WholeRows rows) (R : RowScan) (i : ℕ) wh
   under_33 e = (rw e, rw e)
 
   -- from the rows under it
-  head_found : {n : ℕ} {r : Scan} (t : ℕ) (kinds : List ItemKind) (kids : Kids) → shape t ≡ with_kids kinds kids → head_fits store rows t i ≡ true → scan_under store R (shape (tag_at rows i)) (count_at rows i) ≡ read_many n (R any_row)
-      → rows_under rows i ≡ n
+  head_found : {n : ℕ} {r : Scan} (t : ℕ) (kinds : List ItemKind) (kids : Kids) → shape t ≡ with_kids kinds kids → head_fits store rows t i ≡ true
+      → scan_under store R (shape (tag_at rows i)) (count_at rows i) ≡ read_many n (R any_row) → rows_under rows i ≡ n
       → Scanned rows n (i + 1) r (read_many n (R any_row) (at_row rows (i + 1))) → Scanned rows 1 i r (scan_untagged store R t kinds kids (at_row rows i))
   head_found {n} t kinds kids es f eu en s =
       let e : scan_under store R (shape (tag_at rows i)) (count_at rows i) (at_row rows (i + 1)) ≡ read_many n (R any_row) (at_row rows (i + 1)) = ap (λ (g : Reader (Trees Part)). g (at_row rows (i + 1))) eu in
       found_by (leads_then (untagged_leads store rows i R t kinds kids es f) (leads_is e)) (λ k q. skip_row (head_tag t f).0 (sym en) q) s
 
-  pub chunk_found : {t n : ℕ} {r : Scan} → t ≡ 32 → head_fits store rows t i ≡ true → n ≡ word_at rows i 3 → Scanned rows n (i + 1) r (read_many n (R any_row) (at_row rows (i + 1)))
-      → Scanned rows 1 i r (scan_chunk_or_field store R t (at_row rows i))
-  unfolding when◌then◌else◌
-  chunk_found {t} {n} {r} e f en s =
-      let g : head_fits store rows 32 i ≡ true = rw e at f in
-      let u = under_32 (head_tag 32 g).1 in
-      rw (eq-eqb t 32 e) (head_found 32 (ItemKind.code ∷ []) values shape_32 g (u.0 ∙ ap (λ (m : ℕ). read_many m (R any_row)) (sym en)) (u.1 ∙ sym en) s)
+  pub chunk_found : {n : ℕ} {r : Scan} → head_fits store rows 32 i ≡ true → n ≡ word_at rows i 3 → Scanned rows n (i + 1) r (read_many n (R any_row) (at_row rows (i + 1)))
+      → Scanned rows 1 i r (scan_chunk store R (at_row rows i))
+  chunk_found f en s =
+      let u = under_32 (head_tag 32 f).1 in
+      head_found 32 (ItemKind.code ∷ []) values shape_32 f (u.0 ∙ ap (λ (m : ℕ). read_many m (R any_row)) (sym en)) (u.1 ∙ sym en) s
 
-  pub field_found : {t : ℕ} {r : Scan} → 32 ≤ t → t ≤ 33 → (t ≡ 32 → ⊥) → head_fits store rows t i ≡ true → Scanned rows 1 (i + 1) r (read_many 1 (R any_row) (at_row rows (i + 1)))
-      → Scanned rows 1 i r (scan_chunk_or_field store R t (at_row rows i))
-  unfolding when◌then◌else◌
-  field_found {t} {r} l h ne f s =
-      let e : t ≡ 33 = omega arith in
-      let g : head_fits store rows 33 i ≡ true = rw e at f in
-      let u = under_33 (head_tag 33 g).1 in
-      rw (ne_eqb t 32 ne) (head_found 33 (ItemKind.string ∷ []) one_value shape_33 g u.0 u.1 s)
-
-  -- a chunk row or field row among others
-  pub field_row_lem : {r : Scan} {m : ℕ} → Scanned rows m i r (scan_chunk_or_field store R 33 (at_row rows i)) → Scanned rows m i r (scan_field store R (at_row rows i))
-  unfolding when◌then◌else◌
-  field_row_lem s = s
-
-  pub chunk_row_lem : {r : Scan} {m : ℕ} → Scanned rows m i r (scan_chunk_or_field store R 32 (at_row rows i)) → Scanned rows m i r (scan_chunk store R (at_row rows i))
-  unfolding when◌then◌else◌
-  chunk_row_lem s = s
+  pub field_found : {r : Scan} → head_fits store rows 33 i ≡ true → Scanned rows 1 (i + 1) r (read_many 1 (R any_row) (at_row rows (i + 1))) → Scanned rows 1 i r (scan_field store R (at_row rows i))
+  field_found f s = let u = under_33 (head_tag 33 f).1 in head_found 33 (ItemKind.string ∷ []) one_value shape_33 f u.0 u.1 s
 
 ---- a closure's function and values
 
@@ -127,7 +112,8 @@ module _ (store rows : List ℕ) (b : WholeRows rows) (d n i : ℕ) where
   unfolding ◌>>=◌ and_then
   function_unsound f e s = record { found = rw (function_is store rows i b.whole d f, bad_of e s) }
 
-  pub function_found : {j : ℕ} {r r' : Scan} → is_tagged rows 7 i ≡ true → r ≡ Ok j → Scanned rows 1 i r (scan_value store d any_row (at_row rows i)) → Scanned rows n j r' (read_many n (scan_value store d any_row) (at_row rows j))
+  pub function_found : {j : ℕ} {r r' : Scan} → is_tagged rows 7 i ≡ true → r ≡ Ok j → Scanned rows 1 i r (scan_value store d any_row (at_row rows i))
+      → Scanned rows n j r' (read_many n (scan_value store d any_row) (at_row rows j))
       → Scanned rows (n + 1) i r' (scan_template (scan_value store d) n (at_row rows i))
   function_found {j} f e s s' =
       let g = next_of e s in

@@ -12,7 +12,7 @@ use Rattle.payload.specs.Laws.Pool.{and_both}
 use Rattle.payload.specs.Reader.{Part, ◌>>=◌, ◌>>◌, and_then, ok, pure, refused, start}
 use Rattle.payload.specs.Rows.{row_width}
 use Rattle.payload.specs.Scan.{scan_outer, scan_value}
-use Rattle.payload.specs.Sound.{Tables, all_starts, give_node, is_nil, line_of, line_sound, no_more_rows, script_of, sound_script, spans_of, spans_sound, tables}
+use Rattle.payload.specs.Sound.{Tables, all_starts, give_node, is_nil, line_of, line_sound, no_more_rows, script_of, sound_script, spans_of, spans_sound}
 use Rattle.payload.specs.Spans.{small_spans}
 use Rattle.payload.specs.Trees.{Node, Script}
 use Rattle.utf8.specs.Utf8.{is_utf8, part_is_utf8}
@@ -23,7 +23,7 @@ use Rattle.scan_rows.specs.Laws.Code.{scanned_code}
 use Rattle.scan_rows.specs.Laws.Found.{bad_of, next_of}
 use Rattle.scan_rows.specs.Laws.Steps.{and_pass, must_pass, pass}
 use Rattle.scan_rows.specs.Row.{at_row, row_count}
-use Rattle.scan_rows.specs.Under.{scan_chunk_or_field}
+use Rattle.scan_rows.specs.Under.{scan_chunk}
 
 ---- spans
 
@@ -61,11 +61,6 @@ unfolding all_starts
 starts_small [] h = refl
 starts_small (s ∷ ss) h = and_both (lt-ltb s (2 ^ 32) (h 0)) (starts_small ss (λ k. h (suc k)))
 
-pub none_small : (ss : List ℕ) → length ss ≡ 0 → all_starts ss ≡ true
-unfolding all_starts
-none_small [] e = refl
-none_small (s ∷ ss) e = absurd (omega arith)
-
 pub no_starts : (ss : List ℕ) → eqb (length ss) 0 ≡ is_nil ss
 unfolding is_nil
 no_starts [] = refl
@@ -73,9 +68,9 @@ no_starts (s ∷ ss) = ne_eqb (suc (length ss)) 0 (λ e. omega arith)
 
 -- flag 0, and flag 1
 module _ (T : Tables) where
-  pub no_line : T.flag ≡ 0 → ((eqb T.name_offset 0 && eqb T.name_length 0) && eqb (length T.starts) 0) ≡ line_sound T
+  pub no_line : T.flag ≡ 0 → ((eqb T.name_offset 0 && eqb T.name_length 0) && is_nil T.starts) ≡ line_sound T
   unfolding line_sound when◌then◌else◌ ◌and◌
-  no_line e = rw (eq-eqb T.flag 0 e, no_starts T.starts) (go (eqb T.name_offset 0) (eqb T.name_length 0) (is_nil T.starts))
+  no_line e = rw (eq-eqb T.flag 0 e) (go (eqb T.name_offset 0) (eqb T.name_length 0) (is_nil T.starts))
     where
       go : (a b c : Bool) → ((a && b) && c) ≡ (a and b and c)
       go true true c = refl
@@ -94,11 +89,6 @@ module _ (T : Tables) where
       go true true = refl
       go true false = refl
       go false b = refl
-
--- the line index needs neither rows nor spans
-pub line_alone : (store rows spans starts : List ℕ) (flag o n : ℕ) → line_sound (tables store [] [] starts flag o n) ≡ line_sound (tables store rows spans starts flag o n)
-unfolding line_sound
-line_alone store rows spans starts flag o n = refl
 
 ---- the script
 
@@ -149,11 +139,11 @@ module _ (T : Tables) where
 
 ---- what the scan of the outer chunk tells of the script
 
-outer_is : (store rows : List ℕ) → scan_chunk_or_field store (scan_value store 32) 32 (at_row rows 0) ≡ scan_outer store (start rows)
-unfolding scan_outer when◌then◌else◌
+outer_is : (store rows : List ℕ) → scan_chunk store (scan_value store 32) (at_row rows 0) ≡ scan_outer store (start rows)
+unfolding scan_outer
 outer_is store rows = refl
 
-module _ (T : Tables) {r : Scan} (s : Scanned T.rows 1 0 r (scan_chunk_or_field T.store (scan_value T.store 32) 32 (at_row T.rows 0))) where
+module _ (T : Tables) {r : Scan} (s : Scanned T.rows 1 0 r (scan_chunk T.store (scan_value T.store 32) (at_row T.rows 0))) where
   outer_found : Scanned T.rows 1 0 r (scan_outer T.store (start T.rows))
   outer_found = rw (outer_is T.store T.rows) at s
 

@@ -32,9 +32,6 @@ module _ {rows : List ℕ} where
   skip_end stay h = h
   skip_end (over {n} {i} {j} u s) h = skip_end s (omega arith)
 
-  pub skip_as : {a b i j k l : ℕ} → a ≡ b → i ≡ j → k ≡ l → Skip rows a i k → Skip rows b j l
-  skip_as e f g s = rw (← e, ← f, ← g) s
-
 -- a row that has one row more under it, or none
 pub skip_row : {rows : List ℕ} {i j n : ℕ} → i < row_count rows → n ≡ rows_under rows i → Skip rows n (i + 1) j → Skip rows 1 i j
 skip_row {rows} {i} {j} {n} u e s = let f : n ≡ rows_under rows i + 0 = omega arith in over u (rw f at s)
@@ -53,9 +50,6 @@ under_by_lem (with_template kinds) n = refl
 pub rows_under_is : (rows : List ℕ) (i : ℕ) → rows_under rows i ≡ under_by (under_rules (tag_at rows i)) (count_at rows i)
 unfolding rows_under under_rules
 rows_under_is rows i = under_by_lem (shape (tag_at rows i)) (count_at rows i)
-
-pub under_at : (rows : List ℕ) (i : ℕ) {t u n : ℕ} → t ≡ tag_at rows i → u ≡ under_rules t → n ≡ count_at rows i → rows_under rows i ≡ under_by u n
-under_at rows i et eu en = rw (en, eu, et) (rows_under_is rows i)
 
 ---- a walk over rows with so many left
 
@@ -78,21 +72,23 @@ module _ {rows : List ℕ} {count i pending at : ℕ} (l : Left rows count i pen
 
 ---- entries
 
-module _ {store rows : List ℕ} {width : ℕ} (p : 1 ≤ width) where
-  pub entries_far : {i j : ℕ} {l : List (List ℕ)} → Entries store rows width i j l → i ≤ j
+-- `gap` values stand between two keys
+module _ {store rows : List ℕ} {gap : ℕ} where
+  pub entries_far : {i j : ℕ} {l : List (List ℕ)} → Entries store rows (suc gap) i j l → i ≤ j
   entries_far no_entry = omega arith
   entries_far (entry f s t) = let a = skip_far s in let b = entries_far t in omega arith
 
-  pub entries_next : {i j : ℕ} {l : List (List ℕ)} → i < j → Entries store rows width i j l
-      → (k : ℕ) × (m : List (List ℕ)) × (l ≡ row_key store rows i ∷ m) × (key_fits store rows i ≡ true) × Skip rows width i k × Entries store rows width k j m
+  pub entries_next : {i j : ℕ} {l : List (List ℕ)} → i < j → Entries store rows (suc gap) i j l
+      → (k : ℕ) × (m : List (List ℕ)) × (l ≡ row_key store rows i ∷ m) × (key_fits store rows i ≡ true) × Skip rows (suc gap) i k × Entries store rows (suc gap) k j m
   entries_next h no_entry = absurd (omega arith)
   entries_next h (entry {i} {k} {j} {l} f s t) = (k, l, refl, f, s, t)
 
-  pub entries_done : {i j : ℕ} {l : List (List ℕ)} → j ≤ i → Entries store rows width i j l → l ≡ []
+  pub entries_done : {i j : ℕ} {l : List (List ℕ)} → j ≤ i → Entries store rows (suc gap) i j l → l ≡ []
   entries_done h no_entry = refl
   entries_done h (entry f s t) = let a = skip_far s in let b = entries_far t in absurd (omega arith)
 
-pub entries_more : {store rows : List ℕ} {width i j k : ℕ} {l : List (List ℕ)} → Entries store rows width i j l → key_fits store rows j ≡ true → Skip rows width j k → Entries store rows width i k (l ++ (row_key store rows j ∷ []))
+pub entries_more : {store rows : List ℕ} {width i j k : ℕ} {l : List (List ℕ)} → Entries store rows width i j l → key_fits store rows j ≡ true → Skip rows width j k
+    → Entries store rows width i k (l ++ (row_key store rows j ∷ []))
 entries_more no_entry f s = entry f s no_entry
 entries_more (entry g t r) f s = entry g t (entries_more r f s)
 

@@ -8,7 +8,7 @@ use Rattle.write_code.proofs.write_run.Goals as goal
 pub returns : goal.returns
 unfolding write_delta
 returns c =
-    let args = c.args in
+    let run = c.args.run in
     emits_as
-    (ap₂ (λ (x y : ℕ). (uleb128 x ++ uleb128 y) ++ uleb128 args.n) c.delta_to.ensures
+    (ap₂ (λ (x y : ℕ). (uleb128 x ++ uleb128 y) ++ uleb128 run.count) c.delta_to.ensures
     c.delta_to-2.ensures) c.three_varints.ensures

@@ -1,16 +1,15 @@
--- Laws of spans in a table of words: their maximal runs one after another, and the bytes of the runs from a span on.
-use Rattle.std.specs.Prelude.{◌≡◌, ℕ, zero, suc, ◌+◌, ◌-◌, ◌*◌, ◌/◌, ◌^◌, ◌<◌, ◌≤◌, Bool, true, false, cond, not, ◌&&◌, ◌||◌, List, [], ◌∷◌, ◌++◌, length, drop, ◌==◌, slice_index}
+-- Laws of spans: their maximal runs one after another, and how often a span is repeated at the front of a table.
+use Rattle.std.specs.Prelude.{◌≡◌, ℕ, zero, suc, ◌+◌, ◌-◌, ◌*◌, ◌/◌, ◌<◌, ◌≤◌, Bool, true, false, List, [], ◌∷◌, ◌++◌, length, drop, take, slice_index}
 use Rattle.std.proofs.Math.Path.{refl, sym, ap}
-use Rattle.std.proofs.Common.{ap₂, ◌∙◌, add-one, length-drop, drop-cons, drop-drop, eqb-true}
+use Rattle.std.proofs.Common.{◌∙◌, add-one, length-drop, drop-cons, eqb-true}
 use native.Mathlib.Omega.{arith}
 use Rattle.std.proofs.Math.Seq.{drop-nil}
-use Rattle.std.proofs.lemmas.Bool.{not-true, not-false}
-use Rattle.varint.specs.Uleb128.{uleb128}
-use Rattle.payload.specs.Choice.{when◌then◌else◌, ◌and◌}
+use Rattle.payload.specs.Choice.{when◌then◌else◌}
 use Rattle.payload.specs.Laws.Pool.{and_left, and_right}
 use Rattle.payload.specs.Sound.{spans_of}
-use Rattle.payload.specs.Spans.{Span, Run, same_span, join, runs_of, write_delta, write_deltas, write_runs}
-use Rattle.write_code.specs.Runs.{span, span_at, leading_trues, repeated, run_end, RunEnd}
+use Rattle.payload.specs.Spans.{Span, Run, same_span, join, runs_of}
+use Rattle.std.proofs.lemmas.List.{take_all, get_or-drop}
+use Rattle.write_code.specs.Runs.{Positions, span, leading_trues, repeated}
 
 ---- runs
 
@@ -19,30 +18,27 @@ unfolding same_span
 same_span_eq a b e = λ i. record { start = eqb-true a.start b.start (and_left _ _ e) i; end = eqb-true a.end b.end (and_right _ _ e) i }
 
 -- the first run, and the runs after it
-runs_first : (s : Span) (l : List Span) → runs_of (s ∷ l) ≡ record { span = s; count = suc (repeated s l) } ∷ runs_of (drop (repeated s l) l)
+pub runs_first : (s : Span) (l : List Span) → runs_of (s ∷ l) ≡ record { span = s; count = suc (repeated s l) } ∷ runs_of (drop (repeated s l) l)
 unfolding runs_of join repeated when◌then◌else◌
 runs_first s [] = refl
 runs_first s (t ∷ l) = ap (join s) (runs_first t l) ∙ go (runs_first t l) (same_span s t) refl
   where
     go : runs_of (t ∷ l) ≡ record { span = t; count = suc (repeated t l) } ∷ runs_of (drop (repeated t l) l) → (b : Bool) → same_span s t ≡ b
-        → when◌then◌else◌ b (record { span = s; count = suc (suc (repeated t l)) } ∷ runs_of (drop (repeated t l) l)) (record { span = s; count = 1 } ∷ record { span = t; count = suc (repeated t l) } ∷ runs_of (drop (repeated t l) l))
+        → when◌then◌else◌ b (record { span = s; count = suc (suc (repeated t l)) } ∷ runs_of (drop (repeated t l) l))
+        (record { span = s; count = 1 } ∷ record { span = t; count = suc (repeated t l) } ∷ runs_of (drop (repeated t l) l))
         ≡ record { span = s; count = suc (when◌then◌else◌ b (suc (repeated s l)) 0) } ∷ runs_of (drop (when◌then◌else◌ b (suc (repeated s l)) 0) (t ∷ l))
     go f true e = ap (λ (u : Span). record { span = s; count = suc (suc (repeated u l)) } ∷ runs_of (drop (repeated u l) l)) (sym (same_span_eq s t e))
     go f false e = ap (λ (rs : List Run). record { span = s; count = 1 } ∷ rs) (sym f)
 
--- a span that differs from the next makes one run more
-count_next : (s t : Span) (l : List Span) (b : Bool) → same_span s t ≡ b → length (runs_of (s ∷ t ∷ l)) ≡ cond b 0 1 + length (runs_of (t ∷ l))
-unfolding join when◌then◌else◌
-count_next s t l b e =
-    let f : runs_of (s ∷ t ∷ l) ≡ join s (runs_of (t ∷ l)) = unfold runs_of in refl in
-    ap length (f ∙ ap (join s) (runs_first t l)) ∙ go b e ∙ ap (λ (rs : List Run). cond b 0 1 + length rs) (sym (runs_first t l))
-  where
-    rest : List Run
-    rest = runs_of (drop (repeated t l) l)
+-- a span in front of others is repeated, or another begins
+module _ (s t : Span) (l : List Span) where
+  pub repeated_same : same_span s t ≡ true → repeated s (t ∷ l) ≡ suc (repeated s l)
+  unfolding repeated when◌then◌else◌
+  repeated_same e = rw e
 
-    go : (c : Bool) → same_span s t ≡ c → length (join s (record { span = t; count = suc (repeated t l) } ∷ rest)) ≡ cond c 0 1 + suc (length rest)
-    go true q = rw q (omega arith)
-    go false q = rw q (omega arith)
+  pub repeated_other : same_span s t ≡ false → repeated s (t ∷ l) ≡ 0
+  unfolding repeated when◌then◌else◌
+  repeated_other e = rw e
 
 -- a run that ends among the first, and one that does not
 repeated_some : (s : Span) (l m : List Span) → repeated s l < length l → repeated s (l ++ m) ≡ repeated s l
@@ -65,16 +61,39 @@ repeated_all s (t ∷ l) m h = go (repeated_all s l m) (same_span s t) h
     go f true g = omega (arith, f (omega arith))
     go f false g = absurd (omega arith)
 
--- the sum that counts four tests
-pub trues_sum : (p q r s : Bool) → cond p 1 0 + cond (p && q) 1 0 + cond ((p && q) && r) 1 0 + cond (((p && q) && r) && s) 1 0 ≡ leading_trues (p ∷ q ∷ r ∷ s ∷ [])
-unfolding leading_trues when◌then◌else◌
-trues_sum false q r s = refl
-trues_sum true false r s = refl
-trues_sum true true false s = refl
-trues_sum true true true false = refl
-trues_sum true true true true = refl
+pub repeated_few : (s : Span) (l : List Span) → repeated s l ≤ length l
+unfolding repeated when◌then◌else◌
+repeated_few s [] = omega arith
+repeated_few s (t ∷ l) = go (same_span s t) (repeated_few s l)
+  where
+    go : (b : Bool) → repeated s l ≤ length l → when◌then◌else◌ b (suc (repeated s l)) 0 ≤ suc (length l)
+    go true h = omega arith
+    go false h = omega arith
 
 ---- in the table
+
+-- span k of a table
+abbrev pub span_at : List ℕ → ℕ → Span
+span_at ws k = span (slice_index ws (2 * k)) (slice_index ws (2 * k + 1))
+
+pub spans_none : (ws : List ℕ) → length ws < 2 → spans_of ws ≡ []
+unfolding spans_of
+spans_none [] h = refl
+spans_none (x ∷ []) h = refl
+spans_none (x ∷ y ∷ ws) h = absurd (omega arith)
+
+pub length_spans : (ws : List ℕ) → length (spans_of ws) ≡ length ws / 2
+unfolding spans_of
+length_spans [] = omega arith
+length_spans (x ∷ []) = omega arith
+length_spans (x ∷ y ∷ ws) = omega (arith, length_spans ws)
+
+pub drop_spans : (n : ℕ) (ws : List ℕ) → drop n (spans_of ws) ≡ spans_of (drop (2 * n) ws)
+unfolding spans_of
+drop_spans zero ws = refl
+drop_spans (suc n) [] = ap spans_of (sym (drop-nil (2 * suc n)))
+drop_spans (suc n) (x ∷ []) = let e : 2 * suc n ≡ suc (suc (2 * n)) = omega arith in rw (e, drop-nil (suc (2 * n)))
+drop_spans (suc n) (x ∷ y ∷ ws) = let e : 2 * suc n ≡ suc (suc (2 * n)) = omega arith in rw e (drop_spans n ws)
 
 two : (ws : List ℕ) (k : ℕ) → 2 * k + 1 < length ws → drop (2 * k) ws ≡ slice_index ws (2 * k) ∷ slice_index ws (2 * k + 1) ∷ drop (2 * (k + 1)) ws
 two ws k h =
@@ -85,173 +104,70 @@ spans_next : (ws : List ℕ) (k : ℕ) → k < length ws / 2 → spans_of (drop 
 unfolding spans_of
 spans_next ws k h = rw (two ws k (omega arith))
 
-pub spans_end : (ws : List ℕ) (k : ℕ) → length ws / 2 ≤ k → spans_of (drop (2 * k) ws) ≡ []
-spans_end ws k h = go (drop (2 * k) ws) (omega (arith, length-drop (2 * k) ws))
-  where
-    go : (l : List ℕ) → length l < 2 → spans_of l ≡ []
-    go [] g = unfold spans_of in refl
-    go (x ∷ []) g = unfold spans_of in refl
-    go (x ∷ y ∷ l) g = absurd (omega arith)
+-- the words from one on, as a part of the table
+pub words_from : (n : ℕ) (ws : List ℕ) → take (length ws - n) (drop n ws) ≡ drop n ws
+words_from n ws = take_all (length ws - n) (drop n ws) (omega (arith, length-drop n ws))
 
-drop_spans : (n : ℕ) (ws : List ℕ) → drop n (spans_of ws) ≡ spans_of (drop (2 * n) ws)
-unfolding spans_of
-drop_spans zero ws = refl
-drop_spans (suc n) [] = ap spans_of (sym (drop-nil (2 * suc n)))
-drop_spans (suc n) (x ∷ []) = let e : 2 * suc n ≡ suc (suc (2 * n)) = omega arith in rw (e, drop-nil (suc (2 * n)))
-drop_spans (suc n) (x ∷ y ∷ ws) = let e : 2 * suc n ≡ suc (suc (2 * n)) = omega arith in rw e (drop_spans n ws)
+pub positions_from : (n : ℕ) (ws : List ℕ) → Positions ws → Positions (drop n ws)
+positions_from n ws h = λ k. rw (get_or-drop n ws k 0) (h (n + k))
 
--- n spans after span k
-spans_after : (ws : List ℕ) (k n : ℕ) → drop n (spans_of (drop (2 * k) ws)) ≡ spans_of (drop (2 * (k + n)) ws)
-spans_after ws k n = let e : 2 * k + 2 * n ≡ 2 * (k + n) = omega arith in drop_spans n (drop (2 * k) ws) ∙ ap spans_of (drop-drop (2 * n) (2 * k) ws ∙ ap (λ (m : ℕ). drop m ws) e)
+pub span_in_front : (ws : List ℕ) → 2 ≤ length ws → spans_of ws ≡ span_at ws 0 ∷ spans_of (drop 2 ws)
+span_in_front ws h = spans_next ws 0 (omega arith)
 
----- how many runs
+pub repeated_words : (s : Span) (ws : List ℕ) → 2 * repeated s (spans_of ws) ≤ length ws
+repeated_words s ws = omega (arith, repeated_few s (spans_of ws), length_spans ws)
 
--- n counts the runs that end before span k, and the one that the last span ends; `here` is how many begin from span k on
-pub record Counted (last k n whole here : ℕ) : Type 0 where
-  pub upto : k ≤ last
-  pub few : n ≤ k + 1
-  pub is : whole + 1 ≡ n + here
+-- the first run of a table, and the spans after it
+pub run_in_front : (ws after : List ℕ) (s : Span) (n : ℕ) → spans_of ws ≡ s ∷ spans_of after → n ≡ repeated s (spans_of after)
+    → runs_of (spans_of ws) ≡ record { span = s; count = 1 + n } ∷ runs_of (spans_of (drop (2 * n) after))
+run_in_front ws after s n e h =
+    let c : suc n ≡ 1 + n = omega arith in
+    rw (e, runs_first s (spans_of after), ← h, drop_spans n after, c)
 
--- the code's test of neighbours
-differ : (p q : Bool) → (not p || not q) ≡ not (p and q)
-unfolding ◌and◌
-differ true q = refl
-differ false q = refl
+---- how often a span is repeated at the front of a table
 
--- whether span k differs from the next
-abbrev pub differs : List ℕ → ℕ → Bool
-differs ws k = not (slice_index ws (2 * k) == slice_index ws (2 * k + 2)) || not (slice_index ws (2 * k + 1) == slice_index ws (2 * k + 3))
+-- as far as span k
+pub record Repeats (s : Span) (ws : List ℕ) (k : ℕ) : Type 0 where
+  pub within : k ≤ length ws / 2
+  pub is : repeated s (spans_of ws) ≡ k + repeated s (spans_of (drop (2 * k) ws))
 
-differs_same : (ws : List ℕ) (k : ℕ) → differs ws k ≡ not (same_span (span_at ws k) (span_at ws (k + 1)))
-unfolding same_span
-differs_same ws k = let e : 2 * (k + 1) ≡ 2 * k + 2 = omega arith in let f : 2 * (k + 1) + 1 ≡ 2 * k + 3 = omega arith in rw (f, e) (differ _ _)
+module _ (s : Span) (ws : List ℕ) where
+  pub repeats_none : Repeats s ws 0
+  repeats_none = record { within = omega arith; is = omega arith }
 
-count_at_lem : (ws : List ℕ) (k : ℕ) (b : Bool) → k + 1 < length ws / 2 → differs ws k ≡ b → length (runs_of (spans_of (drop (2 * k) ws))) ≡ cond b 1 0 + length (runs_of (spans_of (drop (2 * (k + 1)) ws)))
-count_at_lem ws k b h e = rw (spans_next ws k (omega arith), spans_next ws (k + 1) h) (go b (sym (differs_same ws k) ∙ e))
-  where
-    rest : List Span
-    rest = spans_of (drop (2 * (k + 1 + 1)) ws)
+  module _ (k : ℕ) (t : Repeats s ws k) where
+    module _ (h : k < length ws / 2) where
+      pub repeats_next : same_span s (span_at ws k) ≡ true → Repeats s ws (k + 1)
+      repeats_next e =
+          let f : repeated s (spans_of (drop (2 * k) ws)) ≡ suc (repeated s (spans_of (drop (2 * (k + 1)) ws))) = rw (spans_next ws k h) (repeated_same s (span_at ws k) _ e) in
+          record { within = omega arith; is = omega (arith, t.is) }
 
-    go : (c : Bool) → not (same_span (span_at ws k) (span_at ws (k + 1))) ≡ c → length (runs_of (span_at ws k ∷ span_at ws (k + 1) ∷ rest)) ≡ cond c 1 0 + length (runs_of (span_at ws (k + 1) ∷ rest))
-    go true q = count_next _ _ rest false (not-true _ q)
-    go false q = count_next _ _ rest true (not-false _ q)
+      pub repeats_ends : same_span s (span_at ws k) ≡ false → k ≡ repeated s (spans_of ws)
+      repeats_ends e =
+          let f : repeated s (spans_of (drop (2 * k) ws)) ≡ 0 = rw (spans_next ws k h) (repeated_other s (span_at ws k) _ e) in
+          omega (arith, t.is)
 
--- from span k to the next
-pub counted_next : (ws : List ℕ) (k n n' whole : ℕ) (b : Bool) → Counted (length ws / 2 - 1) k n whole (length (runs_of (spans_of (drop (2 * k) ws)))) → k < length ws / 2 - 1 → differs ws k ≡ b → n' ≡ n + cond b 1 0
-    → Counted (length ws / 2 - 1) (k + 1) n' whole (length (runs_of (spans_of (drop (2 * (k + 1)) ws))))
-counted_next ws k n n' whole b t h e q = go b q (count_at_lem ws k b (omega arith) e)
-  where
-    go : (c : Bool) → n' ≡ n + cond c 1 0 → length (runs_of (spans_of (drop (2 * k) ws))) ≡ cond c 1 0 + length (runs_of (spans_of (drop (2 * (k + 1)) ws)))
-        → Counted (length ws / 2 - 1) (k + 1) n' whole (length (runs_of (spans_of (drop (2 * (k + 1)) ws))))
-    go true q g = record { upto = omega arith; few = omega arith; is = omega arith }
-    go false q g = record { upto = omega arith; few = omega arith; is = omega arith }
+    pub repeats_all : length ws / 2 ≤ k → length ws / 2 ≡ repeated s (spans_of ws)
+    repeats_all h = omega (arith, t.is, repeated_few s (spans_of (drop (2 * k) ws)), length_spans (drop (2 * k) ws), length-drop (2 * k) ws)
 
--- the last span is a run
-pub counted_end : (ws : List ℕ) (k n whole : ℕ) → 0 < length ws / 2 → Counted (length ws / 2 - 1) k n whole (length (runs_of (spans_of (drop (2 * k) ws)))) → length ws / 2 - 1 ≤ k → n ≡ whole
-unfolding runs_of join
-counted_end ws k n whole h t g =
-    let u : k ≤ length ws / 2 - 1 = t.upto in
-    let e : length (runs_of (spans_of (drop (2 * k) ws))) ≡ 1 = rw (spans_next ws k (omega arith), spans_end ws (k + 1) (omega arith)) in
-    omega (arith, t.is)
-
-pub counted_none : (ws : List ℕ) → length ws / 2 ≡ 0 → 0 ≡ length (runs_of (spans_of ws))
-unfolding runs_of
-counted_none ws h = ap (λ (l : List Span). length (runs_of l)) (sym (spans_end ws 0 (omega arith)))
-
----- the end of a run
-
--- the run of s that began with span k goes on as far as s is repeated from span l on
-pub record RunTo (ws : List ℕ) (s : Span) (k l : ℕ) : Type 0 where
-  pub from : k < l
-  pub within : l ≤ length ws / 2
-  pub is : run_end ws s k ≡ l + repeated s (spans_of (drop (2 * l) ws))
-
-module _ (ws : List ℕ) (s : Span) (k : ℕ) where
-  pub run_start : k < length ws / 2 → RunTo ws s k (k + 1)
-  unfolding run_end
-  run_start h = record { from = omega arith; within = omega arith; is = refl }
-
-  pub run_next : (l : ℕ) → RunTo ws s k l → l < length ws / 2 → same_span s (span_at ws l) ≡ true → RunTo ws s k (l + 1)
-  unfolding repeated when◌then◌else◌
-  run_next l t h e =
-      let f : repeated s (spans_of (drop (2 * l) ws)) ≡ suc (repeated s (spans_of (drop (2 * (l + 1)) ws))) = rw (spans_next ws l h, e) in
-      record { from = omega (arith, t.from); within = omega arith; is = omega (arith, t.is) }
-
-  pub run_differs : (l : ℕ) → RunTo ws s k l → l < length ws / 2 → same_span s (span_at ws l) ≡ false → RunEnd ws s k l
-  unfolding repeated when◌then◌else◌
-  run_differs l t h e =
-      let f : repeated s (spans_of (drop (2 * l) ws)) ≡ 0 = rw (spans_next ws l h, e) in
-      record { from = t.from; within = t.within; is = omega (arith, t.is) }
-
-  pub run_last : (l : ℕ) → RunTo ws s k l → length ws / 2 ≤ l → RunEnd ws s k l
-  unfolding repeated
-  run_last l t h =
-      let f : repeated s (spans_of (drop (2 * l) ws)) ≡ 0 = rw (spans_end ws l h) in
-      record { from = t.from; within = t.within; is = omega (arith, t.is) }
-
-  -- the four spans after span k
+  -- the first four spans
   abbrev pub four : List Span
-  four = span_at ws (k + 1) ∷ span_at ws (k + 2) ∷ span_at ws (k + 3) ∷ span_at ws (k + 4) ∷ []
+  four = span_at ws 0 ∷ span_at ws 1 ∷ span_at ws 2 ∷ span_at ws 3 ∷ []
 
-  spans_four : k + 4 < length ws / 2 → spans_of (drop (2 * (k + 1)) ws) ≡ four ++ spans_of (drop (2 * (k + 5)) ws)
-  spans_four h =
-      let e₂ : k + 1 + 1 ≡ k + 2 = omega arith in
-      let e₃ : k + 2 + 1 ≡ k + 3 = omega arith in
-      let e₄ : k + 3 + 1 ≡ k + 4 = omega arith in
-      let e₅ : k + 4 + 1 ≡ k + 5 = omega arith in
-      rw (spans_next ws (k + 1) (omega arith), e₂, spans_next ws (k + 2) (omega arith), e₃, spans_next ws (k + 3) (omega arith), e₄, spans_next ws (k + 4) h, e₅)
+  spans_four : 8 ≤ length ws → spans_of ws ≡ four ++ spans_of (drop (2 * 4) ws)
+  spans_four h = spans_next ws 0 (omega arith) ∙ rw (spans_next ws 1 (omega arith), spans_next ws 2 (omega arith), spans_next ws 3 (omega arith))
 
-  -- the tests that are true before the first false one are the followers that are s
-  pub trues_four : {p₁ p₂ p₃ p₄ : Bool} → p₁ ≡ same_span s (span_at ws (k + 1)) → p₂ ≡ same_span s (span_at ws (k + 2)) → p₃ ≡ same_span s (span_at ws (k + 3)) → p₄ ≡ same_span s (span_at ws (k + 4))
+  -- the tests that are true before the first false one are the spans at the front that are s
+  pub trues_four : {p₁ p₂ p₃ p₄ : Bool} → p₁ ≡ same_span s (span_at ws 0) → p₂ ≡ same_span s (span_at ws 1) → p₃ ≡ same_span s (span_at ws 2) → p₄ ≡ same_span s (span_at ws 3)
       → leading_trues (p₁ ∷ p₂ ∷ p₃ ∷ p₄ ∷ []) ≡ repeated s four
   unfolding repeated leading_trues
   trues_four e₁ e₂ e₃ e₄ = rw (e₁, e₂, e₃, e₄)
 
-  -- the run ends among the four
-  pub run_short : (n : ℕ) → k + 4 < length ws / 2 → n ≡ repeated s four → n < 4 → RunEnd ws s k (k + 1 + n)
-  unfolding run_end
-  run_short n h e g = record { from = omega arith; within = omega arith; is = ap (λ (m : ℕ). k + 1 + m) (e ∙ sym (rw (spans_four h) (repeated_some s four _ (omega arith)))) }
+  module _ (n : ℕ) (h : 8 ≤ length ws) (e : n ≡ repeated s four) where
+    pub repeats_short : n < 4 → n ≡ repeated s (spans_of ws)
+    repeats_short g = e ∙ sym (rw (spans_four h) (repeated_some s four _ (omega arith)))
 
-  -- the run has all four
-  pub run_long : (n : ℕ) → k + 4 < length ws / 2 → n ≡ repeated s four → n ≡ 4 → RunTo ws s k (k + 1 + n)
-  unfolding run_end
-  run_long n h e g =
-      let f : k + 1 + n ≡ k + 5 = omega arith in
-      let r : repeated s (spans_of (drop (2 * (k + 1)) ws)) ≡ 4 + repeated s (spans_of (drop (2 * (k + 5)) ws)) = rw (spans_four h) (repeated_all s four _ (omega arith)) in
-      record { from = omega arith; within = omega arith; is = rw f (omega arith) }
-
----- the bytes of runs
-
--- the bytes of the runs from span k on, after a run of spans s, e
-unfoldable pub runs_from : List ℕ → ℕ → ℕ → ℕ → List ℕ
-runs_from ws k s e = write_deltas (span s e) (runs_of (spans_of (drop (2 * k) ws)))
-
--- the run that begins with span k, and the rest
-pub run_at : (ws : List ℕ) (k l : ℕ) → k < length ws / 2 → l ≡ run_end ws (span_at ws k) k
-    → runs_of (spans_of (drop (2 * k) ws)) ≡ record { span = span_at ws k; count = l - k } ∷ runs_of (spans_of (drop (2 * l) ws))
-unfolding run_end
-run_at ws k l h e =
-    let n = repeated (span_at ws k) (spans_of (drop (2 * (k + 1)) ws)) in
-    let c : suc n ≡ l - k = omega arith in
-    ap runs_of (spans_next ws k h) ∙ runs_first _ _
-    ∙ ap₂ (λ (m : ℕ) (x : List Span). record { span = span_at ws k; count = m } ∷ runs_of x) c (spans_after ws (k + 1) n ∙ ap (λ (m : ℕ). spans_of (drop (2 * m) ws)) (sym e))
-
--- the bytes of one run, and the rest
-pub runs_from_run : (ws : List ℕ) (k l s e : ℕ) → k < length ws / 2 → l ≡ run_end ws (span_at ws k) k
-    → runs_from ws k s e ≡ ((write_delta s (slice_index ws (2 * k)) ++ write_delta e (slice_index ws (2 * k + 1))) ++ uleb128 (l - k)) ++ runs_from ws l (slice_index ws (2 * k)) (slice_index ws (2 * k + 1))
-unfolding runs_from write_deltas
-runs_from_run ws k l s e h t = rw (run_at ws k l h t)
-
-pub runs_from_end : (ws : List ℕ) (k s e : ℕ) → length ws / 2 ≤ k → runs_from ws k s e ≡ []
-unfolding runs_from runs_of write_deltas
-runs_from_end ws k s e h = rw (spans_end ws k h)
-
-pub runs_from_all : (ws : List ℕ) → write_runs (spans_of ws) ≡ uleb128 (length (runs_of (spans_of ws))) ++ runs_from ws 0 0 0
-unfolding runs_from write_runs
-runs_from_all ws = refl
-
--- the loop over the runs
-pub record Running (count k s e : ℕ) : Type 0 where
-  pub upto : k ≤ count
-  pub low : s < 2 ^ 63
-  pub high : e < 2 ^ 63
+    pub repeats_four : n ≡ 4 → Repeats s ws n
+    repeats_four g =
+        let r : repeated s (spans_of ws) ≡ 4 + repeated s (spans_of (drop (2 * 4) ws)) = rw (spans_four h) (repeated_all s four _ (omega arith)) in
+        rw g (record { within = omega arith; is = r })

@@ -12,34 +12,21 @@ use Rattle.emit.specs.declared.Emitter.{Emitter}
 use Rattle.pool_index.specs.Strings.{pool_strings}
 use Rattle.row_layout.specs.Laws.Layout.{leaf_form_low, second_form_low}
 use Rattle.row_layout.specs.Layout.{first_form, second_form, second_word, under_form}
-use Rattle.write_rows.specs.Laws.Walk.{items_emitted, reached_as, walk_none}
+use Rattle.row_layout.specs.Row.{row_word}
+use Rattle.write_rows.specs.Laws.Walk.{reached_as, walk_none}
 use Rattle.write_rows.specs.Reached.{Reached}
-use Rattle.write_rows.specs.Walk.{held, row_word, item_bytes, items_bytes, head_bytes, rows_under, row_spans, span_after, code_length, walked, and_walk, walk_row, walk}
-use Rattle.write_rows.specs.declared.Place.{Place}
+use Rattle.write_rows.specs.Walk.{held, tag_at, item_bytes, both_items, items_bytes, head_bytes, rows_under, row_spans, span_after, code_length, walked, and_walk, walk_row, walk}
 
 -- an item that is no code has no spans
 item_plain : (s : List ℕ) (l : List (List ℕ)) (ss : List Span) (k a b : ℕ) → k < 7 → item_bytes s l [] k a b ≡ item_bytes s l ss k a b
 unfolding item_bytes when◌then◌else◌
 item_plain s l ss k a b h = rw (ne_eqb k 7 (λ e. omega arith))
 
-module _ (s pl rs t : List ℕ) (i : ℕ) (under : under_form (row_word rs i 0) ≡ 0) where
-  -- the tag, the first item and the second make the row
-  pub leaf_two : {e e₁ e₂ e₃ : Emitter} {tag f a b g w c d : ℕ} → tag ≡ row_word rs i 0 → Emits e e₁ (tag_byte tag)
-      → f ≡ first_form tag → a ≡ row_word rs i 1 → b ≡ row_word rs i 2 → Emits e₁ e₂ (item_bytes s (pool_strings s pl) [] f a b)
-      → g ≡ second_form tag → w ≡ second_word tag → c ≡ row_word rs i w → d ≡ row_word rs i (w + 1) → Emits e₂ e₃ (item_bytes s (pool_strings s pl) [] g c d)
-      → Emits e e₃ (head_bytes (held s pl rs t) i [])
-  unfolding head_bytes when◌then◌else◌
-  leaf_two {e₃ = e₃} et x ef ea eb y eg ew ec ed z =
-      rw under (emits_then (emits_as (ap tag_byte et) x) (items_emitted (held s pl rs t) i [] et ef ea eb y eg ew ec ed z (rw under) (emits_none e₃)))
-
-  -- where there is no second item
-  pub leaf_one : {e e₁ e₂ : Emitter} {tag f a b g : ℕ} → tag ≡ row_word rs i 0 → Emits e e₁ (tag_byte tag)
-      → f ≡ first_form tag → a ≡ row_word rs i 1 → b ≡ row_word rs i 2 → Emits e₁ e₂ (item_bytes s (pool_strings s pl) [] f a b)
-      → g ≡ second_form tag → g ≡ 0 → Emits e e₂ (head_bytes (held s pl rs t) i [])
-  leaf_one {e₂ = e₂} {g = g} et x ef ea eb y eg n = leaf_two et x ef ea eb y eg refl refl refl (emits_as (none g _ _ n) (emits_none e₂))
-    where
-      none : (k a b : ℕ) → k ≡ 0 → [] ≡ item_bytes s (pool_strings s pl) [] k a b
-      none k a b q = rw q (unfold item_bytes when◌then◌else◌ in refl)
+module _ (s pl rs t : List ℕ) (i : ℕ) (under : under_form (tag_at rs i) ≡ 0) where
+  -- the tag and the items make the row
+  pub leaf_emitted : {e e₁ e₂ : Emitter} {tag : ℕ} → tag ≡ tag_at rs i → Emits e e₁ (tag_byte tag) → Emits e₁ e₂ (both_items (held s pl rs t) i []) → Emits e e₂ (head_bytes (held s pl rs t) i [])
+  unfolding head_bytes items_bytes when◌then◌else◌
+  leaf_emitted {e₂ = e₂} et x y = rw under (emits_then (emits_as (ap tag_byte et) x) (emits_then y (emits_none e₂)))
 
   head_plain : (ss : List Span) → head_bytes (held s pl rs t) i [] ≡ head_bytes (held s pl rs t) i ss
   unfolding head_bytes items_bytes when◌then◌else◌
@@ -59,8 +46,8 @@ module _ (s pl rs t : List ℕ) (i : ℕ) (under : under_form (row_word rs i 0) 
       (ap (λ (b : List ℕ). walked b (i + 1) j) (head_plain (row_spans (held s pl rs t) i j)))
 
 -- what the writing of such a row has reached
-pub leaf_reached : (s pl rs t : List ℕ) (d : ℕ) {e e' : Emitter} {st r : Place} → under_form (row_word rs st.row 0) ≡ 0 → st.span ≤ length t / 2
-    → Emits e e' (head_bytes (held s pl rs t) st.row []) → r.row ≡ st.row + 1 → r.span ≡ st.span
-    → Reached e e' (length t / 2) st r (walk_row (held s pl rs t) (walk (held s pl rs t) d) st.row st.span)
-leaf_reached s pl rs t d {st = st} under h g er es =
-    reached_as (walk_leaf s pl rs t st.row under d st.span h) (record { wrote = g; row = er; span = es; within = omega arith })
+pub leaf_reached : (s pl rs t : List ℕ) (d i j : ℕ) {e e' : Emitter} {rows : List ℕ} → rows ≡ rs → under_form (tag_at rows i) ≡ 0 → j ≤ length t / 2
+    → Emits e e' (head_bytes (held s pl rows t) i []) → Reached e e' (length t / 2) (i + 1) j (walk_row (held s pl rs t) (walk (held s pl rs t) d) i j)
+leaf_reached s pl rs t d i j same under h g =
+    let under' = rw same at under in
+    reached_as (walk_leaf s pl rs t i under' d j h) (record { wrote = rw same at g; row = refl; span = refl; within = h })

@@ -104,9 +104,12 @@ module _ (s : List ℕ) (l : List (List ℕ)) (ss : List Span) where
       → item_bytes s l ss (item_form (kind_of x)) a b ≡ write_item l (forget_item x)
   unfolding item_words part_words InItem item_sound forget_item Spanned item_form kind_of write_item
   item_written (number k w) a b ws ea eb i h q = ap (λ (x : ℕ). item_bytes s l ss (number_form k) x b) ea ∙ item_num k w b h
-  item_written (string x) a b ws ea eb i h q = ap₂ (λ (m n : ℕ). item_bytes s l ss 6 m n) ea eb ∙ unfold item_bytes in (unfold when◌then◌else◌ in (unfold bytes_at in (ap (λ (y : List ℕ). uleb128 (index_of y l)) i.its_bytes)))
-  item_written (native_name x) a b ws ea eb i h q = ap₂ (λ (m n : ℕ). item_bytes s l ss 6 m n) ea eb ∙ unfold item_bytes in (unfold when◌then◌else◌ in (unfold bytes_at in (ap (λ (y : List ℕ). uleb128 (index_of y l)) i.its_bytes)))
-  item_written (record_name x) a b ws ea eb i h q = ap₂ (λ (m n : ℕ). item_bytes s l ss 6 m n) ea eb ∙ unfold item_bytes in (unfold when◌then◌else◌ in (unfold bytes_at in (ap (λ (y : List ℕ). uleb128 (index_of y l)) i.its_bytes)))
+  item_written (string x) a b ws ea eb i h q =
+      ap₂ (λ (m n : ℕ). item_bytes s l ss 6 m n) ea eb ∙ unfold item_bytes in (unfold when◌then◌else◌ in (unfold bytes_at in (ap (λ (y : List ℕ). uleb128 (index_of y l)) i.its_bytes)))
+  item_written (native_name x) a b ws ea eb i h q =
+      ap₂ (λ (m n : ℕ). item_bytes s l ss 6 m n) ea eb ∙ unfold item_bytes in (unfold when◌then◌else◌ in (unfold bytes_at in (ap (λ (y : List ℕ). uleb128 (index_of y l)) i.its_bytes)))
+  item_written (record_name x) a b ws ea eb i h q =
+      ap₂ (λ (m n : ℕ). item_bytes s l ss 6 m n) ea eb ∙ unfold item_bytes in (unfold when◌then◌else◌ in (unfold bytes_at in (ap (λ (y : List ℕ). uleb128 (index_of y l)) i.its_bytes)))
   item_written (code x ts) a b ws ea eb i h q = ap₂ (λ (m n : ℕ). item_bytes s l ss 7 m n) ea eb ∙ unfold item_bytes in (unfold when◌then◌else◌ in (unfold bytes_at in (ap₂ write_code i.its_bytes q)))
 
   item_none : (a b : ℕ) → item_bytes s l ss 0 a b ≡ []
@@ -136,7 +139,8 @@ module _ (s : List ℕ) (l : List (List ℕ)) (ss : List Span) where
   too_long kn c = let h = leb-true (suc (suc (suc (length kn)))) 2 c in absurd (omega arith)
 
   -- the first two items of a row whose words are w
-  pub items_written : (kn : List ItemKind) (is : List (Item Part)) (ws : List ℕ) (w : ℕ → ℕ) → leb (length kn) 2 ≡ true → same_kinds kn (forget_items is) ≡ true → InItems s is → all_of item_sound (forget_items is) ≡ true → AllSpanned is ss
+  pub items_written : (kn : List ItemKind) (is : List (Item Part)) (ws : List ℕ) (w : ℕ → ℕ) → leb (length kn) 2 ≡ true → same_kinds kn (forget_items is) ≡ true
+      → InItems s is → all_of item_sound (forget_items is) ≡ true → AllSpanned is ss
       → ((k : ℕ) → k < 4 → w (1 + k) ≡ get_or (items_words is ++ ws) k 0)
       → item_bytes s l ss (first_of kn) (w 1) (w 2) ++ item_bytes s l ss (second_of kn) (w (after_first kn)) (w (after_first kn + 1)) ≡ write_items l (forget_items is)
   unfolding same_kinds forget_items InItems all_of AllSpanned items_words first_of second_of after_first write_items
@@ -155,7 +159,8 @@ module _ (s : List ℕ) (l : List (List ℕ)) (ss : List Span) where
       let ek' = of_kind k' y (and_left _ _ (and_right _ _ q)) in
       let lx : length (item_words x) ≡ kind_width k = length_item x ∙ ap kind_width (sym ek) in
       let lw = width_low k in
-      let again : (item_words x ++ (item_words y ++ [])) ++ ws ≡ item_words x ++ (item_words y ++ ws) = append_assoc (item_words x) (item_words y ++ []) ws ∙ ap (λ (v : List ℕ). item_words x ++ v) (append_assoc (item_words y) [] ws) in
+      let again : (item_words x ++ (item_words y ++ [])) ++ ws ≡ item_words x ++ (item_words y ++ ws) = append_assoc (item_words x) (item_words y ++ []) ws
+      ∙ ap (λ (v : List ℕ). item_words x ++ v) (append_assoc (item_words y) [] ws) in
       let at : (n : ℕ) → n < 2 → w (1 + kind_width k + n) ≡ get_or (item_words y ++ ws) n 0 = λ n hn.
       let z : 1 + kind_width k + n ≡ 1 + (kind_width k + n) = omega arith in
       ap w z ∙ e (kind_width k + n) (omega arith)

@@ -24,8 +24,10 @@ use Rattle.payload.specs.Spans.{Span}
 use Rattle.payload.specs.Tables.{span_words}
 use Rattle.payload.specs.Trees.{Item, key_of, forget_items, forget_trees, Trees, nil, node, span_items, span_count, size}
 use Rattle.payload.specs.Writing.{write_items, write_trees, concat, write_kids, write_row, tag_byte}
+use Rattle.row_layout.specs.Laws.Row.{row_word_at}
 use Rattle.row_layout.specs.Layout.{kids_form, shape_form, first_form, second_form, second_word, under_form, count_word}
-use Rattle.write_rows.specs.Walk.{Held, row_count, row_word, items_bytes, head_bytes, rows_under, code_length, span_after, row_spans, Walked, walked, and_walk, walk_times, walk_next, walk_row, walk}
+use Rattle.row_layout.specs.Row.{row_word}
+use Rattle.write_rows.specs.Walk.{Held, row_count, items_bytes, head_bytes, rows_under, code_length, span_after, row_spans, Walked, walked, and_walk, walk_times, walk_next, walk_row, walk}
 use Rattle.write_rows.specs.Laws.RowItems.{no_code, code_first, fine, fine_shape, items_written, length_items}
 use Rattle.write_rows.specs.Laws.RowSpans.{spans_back, spans_drop, Coded, coded, no_spans}
 
@@ -118,8 +120,7 @@ module _ (s : List ℕ) (l : List (List ℕ)) (R S : List ℕ) where
   module _ (t : ℕ) (is : List (Item Part)) (n i : ℕ) (rest : List ℕ) (here : drop (row_width * i) R ≡ row_words t is n ++ rest) (kinds : same_kinds (kinds_of (shape t)) (forget_items is) ≡ true)
       (ins : InItems s is) (all : all_of item_sound (forget_items is) ≡ true) where
     word_is : (k : ℕ) → k < row_width → row_word R i k ≡ get_or (row_words t is n ++ rest) k 0
-    unfolding row_word when◌then◌else◌
-    word_is k h = rw (lt-ltb k row_width h) (sym (get_or-drop (row_width * i) R k 0) ∙ ap (λ (v : List ℕ). get_or v k 0) here)
+    word_is k h = row_word_at R i k h ∙ (sym (get_or-drop (row_width * i) R k 0) ∙ ap (λ (v : List ℕ). get_or v k 0) here)
 
     tag_is : row_word R i 0 ≡ t
     unfolding row_words
@@ -195,17 +196,18 @@ module _ (s : List ℕ) (l : List (List ℕ)) (R S : List ℕ) where
 
       module _ (f : ℕ → ℕ → ℕ → Walked) (es : List (List ℕ)) (i' j' : ℕ) where
         -- a row that is no closure
-        pub row_plain : (b : ℕ) → eqb (under_form t) 4 ≡ false → rows_under H i ≡ b → f b (i + 1) (j + span_items (forget_items is)) ≡ walked (concat es) i' j' → write_row (written is) (shape t) es ≡ tail ++ concat es
+        pub row_plain : (b : ℕ) → eqb (under_form t) 4 ≡ false → rows_under R i ≡ b → f b (i + 1) (j + span_items (forget_items is)) ≡ walked (concat es) i' j' → write_row (written is) (shape t) es ≡ tail ++ concat es
             → walk_row H f i j ≡ walked (tag_byte t ++ write_row (written is) (shape t) es) i' j'
         unfolding walk_row and_walk when◌then◌else◌
         row_plain b c e g a =
             let head : head_bytes H i (row_spans H i j) ≡ tag_byte t ++ tail = before_is ∙ rw c in
             let c' : eqb (under_form (row_word R i 0)) 4 ≡ false = ap (λ (k : ℕ). eqb (under_form k) 4) tag_is ∙ c in
-            let k : f (rows_under H i) (i + 1) (span_after H i j) ≡ walked (concat es) i' j' = ap₂ (λ (m n : ℕ). f m (i + 1) n) e span_to ∙ g in
-            rw c' (ap₂ (λ (v : List ℕ) (w : Walked). walked (v ++ w.bytes) w.row w.span) head k ∙ ap (λ (v : List ℕ). walked v i' j') (append_assoc (tag_byte t) tail (concat es) ∙ ap (λ (v : List ℕ). tag_byte t ++ v) (sym a)))
+            let k : f (rows_under R i) (i + 1) (span_after H i j) ≡ walked (concat es) i' j' = ap₂ (λ (m n : ℕ). f m (i + 1) n) e span_to ∙ g in
+            rw c' (ap₂ (λ (v : List ℕ) (w : Walked). walked (v ++ w.bytes) w.row w.span) head k
+            ∙ ap (λ (v : List ℕ). walked v i' j') (append_assoc (tag_byte t) tail (concat es) ∙ ap (λ (v : List ℕ). tag_byte t ++ v) (sym a)))
 
         -- how many are under it, by the number of its shape
-        beneath_is : (v : ℕ) → under_form t ≡ v → rows_under H i ≡ beneath t i v
+        beneath_is : (v : ℕ) → under_form t ≡ v → rows_under R i ≡ beneath t i v
         unfolding rows_under
         beneath_is v e = rw (tag_is, e)
 
@@ -214,7 +216,7 @@ module _ (s : List ℕ) (l : List (List ℕ)) (R S : List ℕ) where
         tail_is v e = rw e
 
         -- a row with no count: so many under it
-        row_bare : (v b : ℕ) → under_form t ≡ v → eqb v 4 ≡ false → leb 2 v ≡ false → rows_under H i ≡ b → f b (i + 1) (j + span_items (forget_items is)) ≡ walked (concat es) i' j'
+        row_bare : (v b : ℕ) → under_form t ≡ v → eqb v 4 ≡ false → leb 2 v ≡ false → rows_under R i ≡ b → f b (i + 1) (j + span_items (forget_items is)) ≡ walked (concat es) i' j'
             → write_row (written is) (shape t) es ≡ written is ++ concat es → walk_row H f i j ≡ walked (tag_byte t ++ write_row (written is) (shape t) es) i' j'
         unfolding when◌then◌else◌
         row_bare v b ev c m e g a =
@@ -222,8 +224,9 @@ module _ (s : List ℕ) (l : List (List ℕ)) (R S : List ℕ) where
             row_plain b (ap (λ (k : ℕ). eqb k 4) ev ∙ c) e g (a ∙ ap (λ (x : List ℕ). x ++ concat es) (sym z))
 
         -- a row with a count
-        row_counted : (v b c : ℕ) → under_form t ≡ v → eqb v 4 ≡ false → leb 2 v ≡ true → row_word R i (count_word t) ≡ c → rows_under H i ≡ b → f b (i + 1) (j + span_items (forget_items is)) ≡ walked (concat es) i' j'
-            → write_row (written is) (shape t) es ≡ written is ++ (uleb128 c ++ concat es) → walk_row H f i j ≡ walked (tag_byte t ++ write_row (written is) (shape t) es) i' j'
+        row_counted : (v b c : ℕ) → under_form t ≡ v → eqb v 4 ≡ false → leb 2 v ≡ true → row_word R i (count_word t) ≡ c → rows_under R i ≡ b
+            → f b (i + 1) (j + span_items (forget_items is)) ≡ walked (concat es) i' j' → write_row (written is) (shape t) es ≡ written is ++ (uleb128 c ++ concat es)
+            → walk_row H f i j ≡ walked (tag_byte t ++ write_row (written is) (shape t) es) i' j'
         unfolding when◌then◌else◌
         row_counted v b c ev q m ec e g a =
             let z : tail ≡ written is ++ uleb128 c = tail_is v ev ∙ ap (λ (k : Bool). written is ++ when◌then◌else◌ k (uleb128 (row_word R i (count_word t))) []) m ∙ ap (λ (k : ℕ). written is ++ uleb128 k) ec in
@@ -231,7 +234,7 @@ module _ (s : List ℕ) (l : List (List ℕ)) (R S : List ℕ) where
             (a ∙ sym (append_assoc (written is) (uleb128 c) (concat es)) ∙ ap (λ (x : List ℕ). x ++ concat es) (sym z))
 
       -- a closure: its function first
-      row_closure : (f : ℕ → ℕ → ℕ → Walked) (e : List ℕ) (es : List (List ℕ)) (i₁ j₁ i' j' b c : ℕ) → under_form t ≡ 4 → items_spans is ≡ [] → row_word R i (count_word t) ≡ c → rows_under H i ≡ b
+      row_closure : (f : ℕ → ℕ → ℕ → Walked) (e : List ℕ) (es : List (List ℕ)) (i₁ j₁ i' j' b c : ℕ) → under_form t ≡ 4 → items_spans is ≡ [] → row_word R i (count_word t) ≡ c → rows_under R i ≡ b
           → f 1 (i + 1) (j + span_items (forget_items is)) ≡ walked e i₁ j₁ → f b i₁ j₁ ≡ walked (concat es) i' j'
           → walk_row H f i j ≡ walked (tag_byte t ++ (e ++ (written is ++ (uleb128 c ++ concat es)))) i' j'
       unfolding walk_row and_walk when◌then◌else◌
@@ -240,7 +243,7 @@ module _ (s : List ℕ) (l : List (List ℕ)) (R S : List ℕ) where
           let c' : eqb (under_form (row_word R i 0)) 4 ≡ true = ap (λ (k : ℕ). eqb (under_form k) 4) tag_is ∙ ap (λ (v : ℕ). eqb v 4) ev in
           let own : items_bytes H i [] ≡ written is ++ uleb128 c = ap (items_bytes H i) (sym bare) ∙ items_are ∙ ap₂ (λ (v k : ℕ). written is ++ when◌then◌else◌ (leb 2 v) (uleb128 k) []) ev ec in
           let k : f 1 (i + 1) (span_after H i j) ≡ walked e i₁ j₁ = ap (f 1 (i + 1)) span_to ∙ g in
-          rw c' (ap₂ (λ (v : List ℕ) (w : Walked). let y = f (rows_under H i) w.row w.span in walked (v ++ (w.bytes ++ (items_bytes H i [] ++ y.bytes))) y.row y.span) head k
+          rw c' (ap₂ (λ (v : List ℕ) (w : Walked). let y = f (rows_under R i) w.row w.span in walked (v ++ (w.bytes ++ (items_bytes H i [] ++ y.bytes))) y.row y.span) head k
           ∙ ap₂ (λ (v : List ℕ) (m : ℕ). walked ((tag_byte t ++ []) ++ (e ++ (v ++ (f m i₁ j₁).bytes))) (f m i₁ j₁).row (f m i₁ j₁).span) own eb
           ∙ ap (λ (w : Walked). walked ((tag_byte t ++ []) ++ (e ++ ((written is ++ uleb128 c) ++ w.bytes))) w.row w.span) h
           ∙ ap (λ (v : List ℕ). walked v i' j') (ap₂ (λ (x y : List ℕ). x ++ (e ++ y)) (append-nil (tag_byte t)) (append_assoc (written is) (uleb128 c) (concat es))))
@@ -280,7 +283,7 @@ module _ (s : List ℕ) (l : List (List ℕ)) (R S : List ℕ) where
         let m = span_items (forget_items is) in
         let cnt : row_word R i (count_word t) ≡ root_count ks = count_is t is (suc (root_count ks)) i rest here q ins all (root_count ks) [] (ap (λ (x : Shape). count_words x (suc (root_count ks))) e) in
         let low : min (root_count ks) u ≡ root_count ks = let g = count_size ks in omega arith in
-        let b : rows_under H i ≡ root_count ks = beneath_is t is (suc (root_count ks)) i rest here q ins all j more rest' there room (walk H d) [] 0 0 4 v ∙ ap (λ (k : ℕ). min k u) cnt ∙ low in
+        let b : rows_under R i ≡ root_count ks = beneath_is t is (suc (root_count ks)) i rest here q ins all j more rest' there room (walk H d) [] 0 0 4 v ∙ ap (λ (k : ℕ). min k u) cnt ∙ low in
         let fj = j + m + span_items (forget_items fi) + span_count (forget_trees fk) in
         let i₁ = i + 1 + (suc (size fk) + size ks) in
         let j₁ = j + m + ((span_items (forget_items fi) + span_count (forget_trees fk)) + span_count (forget_trees ks)) in
@@ -293,7 +296,8 @@ module _ (s : List ℕ) (l : List (List ℕ)) (R S : List ℕ) where
         ∙ ap (λ (n : ℕ). walked (tag_byte t ++ (first_bytes ft fi fk ++ (written is ++ (uleb128 n ++ concat others)))) i₁ j₁) (sym (length_written l ks))
         ∙ ap (λ (x : Shape). walked (tag_byte t ++ write_row (written is) x (first_bytes ft fi fk ∷ others)) i₁ j₁) (sym e)
 
-  module _ (d t : ℕ) (is : List (Item Part)) (ks : Trees Part) (i j : ℕ) (rest : List ℕ) (here : drop (row_width * i) R ≡ row_words t is (root_count ks) ++ rest) (ins : InItems s is) (all : all_of item_sound (forget_items is) ≡ true)
+  module _ (d t : ℕ) (is : List (Item Part)) (ks : Trees Part) (i j : ℕ) (rest : List ℕ) (here : drop (row_width * i) R ≡ row_words t is (root_count ks) ++ rest)
+      (ins : InItems s is) (all : all_of item_sound (forget_items is) ≡ true)
       (more : List Span) (rest' : List ℕ) (there : drop (2 * j) S ≡ span_words (items_spans is ++ more) ++ rest') (room : j ≤ length S / 2) (small : size ks ≤ u) where
     abbrev i₁ : ℕ
     i₁ = i + 1 + size ks
@@ -393,11 +397,13 @@ module _ (s : List ℕ) (l : List (List ℕ)) (R S : List ℕ) where
   walk_none zero i j = refl
   walk_none (suc d) i j = refl
 
-  walk_more : (d n i j : ℕ) (b c : List ℕ) (i₁ j₁ i₂ j₂ : ℕ) → i < u → walk_row H (walk H d) i j ≡ walked b i₁ j₁ → walk H (suc d) n i₁ j₁ ≡ walked c i₂ j₂ → walk H (suc d) (suc n) i j ≡ walked (b ++ c) i₂ j₂
+  walk_more : (d n i j : ℕ) (b c : List ℕ) (i₁ j₁ i₂ j₂ : ℕ) → i < u → walk_row H (walk H d) i j ≡ walked b i₁ j₁
+      → walk H (suc d) n i₁ j₁ ≡ walked c i₂ j₂ → walk H (suc d) (suc n) i j ≡ walked (b ++ c) i₂ j₂
   unfolding walk walk_times walk_next and_walk when◌then◌else◌
   walk_more d n i j b c i₁ j₁ i₂ j₂ h e g = rw (lt-ltb i u h) (ap (λ (w : Walked). and_walk w (walk_times (walk_next H (walk H d)) n)) e ∙ ap (λ (w : Walked). walked (b ++ w.bytes) w.row w.span) g)
 
-  pub walks : (d : ℕ) (ts : Trees Part) (i j : ℕ) (rest rest' : List ℕ) → drop (row_width * i) R ≡ row_table ts ++ rest → drop (2 * j) S ≡ span_words (span_table ts) ++ rest' → j ≤ length S / 2 → i + size ts ≤ u → tall ts ≤ d
+  pub walks : (d : ℕ) (ts : Trees Part) (i j : ℕ) (rest rest' : List ℕ) → drop (row_width * i) R ≡ row_table ts ++ rest
+      → drop (2 * j) S ≡ span_words (span_table ts) ++ rest' → j ≤ length S / 2 → i + size ts ≤ u → tall ts ≤ d
       → ruled ts ≡ true → InTrees s ts → all_items item_sound (forget_trees ts) ≡ true → WalkIs d ts i j
   unfolding row_table span_table size tall ruled InTrees all_items forget_trees root_count write_trees concat span_count Parts
   walks d nil i j rest rest' eR eS room fits deep h ins a = record {
@@ -442,5 +448,9 @@ module _ (s : List ℕ) (l : List (List ℕ)) (R S : List ℕ) where
       let es : j + m + span_count (forget_trees ks) + span_count (forget_trees ts) ≡ j + ((m + span_count (forget_trees ks)) + span_count (forget_trees ts)) = omega arith in
       record {
         whole = (walk_more d (root_count ts) i j (first_bytes t is ks) (concat (write_trees l (forget_trees ts))) _ _ _ _ low row rest₁.whole ∙ ap₂ (walked (first_bytes t is ks ++ concat (write_trees l (forget_trees ts)))) er es);
-        parts = (walk_more d 0 i j (first_bytes t is ks) [] _ _ _ _ low row (walk_none (suc d) _ _) ∙ ap (λ (v : List ℕ). walked v (i + 1 + size ks) (j + m + span_count (forget_trees ks))) (append-nil (first_bytes t is ks)), rest₁.whole);
+        parts = (
+          walk_more d 0 i j (first_bytes t is ks) [] _ _ _ _ low row (walk_none (suc d) _ _)
+              ∙ ap (λ (v : List ℕ). walked v (i + 1 + size ks) (j + m + span_count (forget_trees ks))) (append-nil (first_bytes t is ks)),
+          rest₁.whole,
+        );
       }

@@ -1,55 +1,29 @@
--- Laws of the walk: equations that the code's tests give, one stretch of a walk after another, the loop over rows, and a row.
-use Rattle.std.specs.Prelude.{List, [], ◌++◌, ◌≡◌, ℕ, zero, suc, ◌+◌, ◌-◌, ◌*◌, ◌/◌, ◌≤◌, ◌<◌, leb, eqb, take, drop}
+-- Laws of the walk: one stretch after another, a row's items, the loop over rows, and a row with those under it.
+use Rattle.std.specs.Prelude.{Bool, true, false, List, [], ◌++◌, ◌≡◌, ℕ, zero, suc, ◌+◌, ◌-◌, ◌*◌, ◌/◌, ◌≤◌, ◌<◌, eqb, take, drop}
 use Rattle.std.proofs.Math.Path.{refl, ap, ap₂}
 use Rattle.std.proofs.Common.{sym, ◌∙◌, subst}
 use native.Mathlib.Omega.{arith}
 use Rattle.std.proofs.Math.ListN.{length}
-use borrow.Author.Tests.{le-leb, lt-leb, eq-eqb, ne_eqb, lt-ltb, le-ltb}
-use Rattle.varint.specs.Uleb128.{uleb128}
+use borrow.Author.Tests.{lt-ltb, le-ltb}
 use Rattle.payload.specs.Choice.{when◌then◌else◌}
 use Rattle.payload.specs.Sound.{spans_of}
 use Rattle.payload.specs.Spans.{Span}
 use Rattle.emit.specs.Emits.{Emits}
 use Rattle.emit.specs.Laws.Emitter.{EmitsRest, emits_as, emits_none, emits_then, rest_start, rest_next, rest_end}
 use Rattle.emit.specs.declared.Emitter.{Emitter}
-use Rattle.row_layout.specs.Layout.{first_form, second_form, second_word, under_form, count_word}
+use Rattle.row_layout.specs.Layout.{first_form, second_form, second_word, under_form}
+use Rattle.row_layout.specs.Row.{row_word}
 use Rattle.write_rows.specs.Reached.{Reached}
-use Rattle.write_rows.specs.Walk.{Held, held, row_count, row_word, item_bytes, items_bytes, head_bytes, rows_under, row_spans, span_after, Walked, walked, and_walk, walk_times, walk_row, walk_next, walk}
+use Rattle.write_rows.specs.Walk.{Held, held, row_count, tag_at, item_bytes, both_items, items_bytes, head_bytes, rows_under, row_spans, span_after, head_walk, Walked, walked, and_walk, walk_times, walk_row, walk_next, walk}
 use Rattle.write_rows.specs.declared.Place.{Place}
-
----- equations that the code's tests give
-
-pub item_as : (s : List ℕ) (l : List (List ℕ)) (ss : List Span) {k k' a a' b b' : ℕ} → k ≡ k' → a ≡ a' → b ≡ b' → item_bytes s l ss k a b ≡ item_bytes s l ss k' a' b'
-item_as s l ss p q r = λ i. item_bytes s l ss (p i) (q i) (r i)
-
--- what is neither a string nor code needs neither store nor pool nor spans, nor a second word
-pub item_number : (s : List ℕ) (l : List (List ℕ)) (ss : List Span) (k a b : ℕ) → (k ≡ 6 → ⊥) → (k ≡ 7 → ⊥) → item_bytes [] [] [] k a 0 ≡ item_bytes s l ss k a b
-unfolding item_bytes when◌then◌else◌
-item_number s l ss k a b h g = rw (ne_eqb k 6 h, ne_eqb k 7 g)
-
-pub count_yes : {u u' c c' : ℕ} → u ≡ u' → 2 ≤ u → c ≡ c' → uleb128 c ≡ when◌then◌else◌ (leb 2 u') (uleb128 c') []
-unfolding when◌then◌else◌
-count_yes {u} {u'} {c} {c'} e h f = rw (← e, le-leb 2 u h) (ap uleb128 f)
-
-pub count_no : (c : ℕ) {u u' : ℕ} → u ≡ u' → u < 2 → [] ≡ when◌then◌else◌ (leb 2 u') (uleb128 c) []
-unfolding when◌then◌else◌
-count_no c {u} {u'} e h = rw (← e, lt-leb 2 u h)
-
-pub is_yes : {A : Type 0} (a b : A) {u u' n : ℕ} → u ≡ u' → u ≡ n → a ≡ when◌then◌else◌ (eqb u' n) a b
-unfolding when◌then◌else◌
-is_yes {A} a b {u} {u'} {n} e h = rw (← e, eq-eqb u n h)
-
-pub is_no : {A : Type 0} (a b : A) (n : ℕ) {u u' : ℕ} → u ≡ u' → (u ≡ n → ⊥) → b ≡ when◌then◌else◌ (eqb u' n) a b
-unfolding when◌then◌else◌
-is_no {A} a b n {u} {u'} e h = rw (← e, ne_eqb u n h)
 
 ---- one stretch after another
 
 module _ {many : ℕ} where
-  pub reached_then : {e e' e'' : Emitter} {s m r : Place} {w : Walked} (f : ℕ → ℕ → Walked) → Reached e e' many s m w → Reached e' e'' many m r (f m.row m.span) → Reached e e'' many s r (and_walk w f)
+  pub reached_then : {e e' e'' : Emitter} {i j i' j' : ℕ} {w : Walked} (f : ℕ → ℕ → Walked) → Reached e e' many i j w → Reached e' e'' many i' j' (f i j) → Reached e e'' many i' j' (and_walk w f)
   unfolding and_walk
-  reached_then {m = m} {w = w} f a b =
-      let to : f m.row m.span ≡ f w.row w.span = ap₂ f a.row a.span in
+  reached_then {i = i} {j = j} {w = w} f a b =
+      let to : f i j ≡ f w.row w.span = ap₂ f a.row a.span in
       record {
         wrote = emits_then a.wrote (emits_as (ap (λ (v : Walked). v.bytes) to) b.wrote);
         row = b.row ∙ ap (λ (v : Walked). v.row) to;
@@ -57,23 +31,36 @@ module _ {many : ℕ} where
         within = b.within;
       }
 
-  pub reached_as : {e e' : Emitter} {s r : Place} {w v : Walked} → w ≡ v → Reached e e' many s r w → Reached e e' many s r v
-  reached_as {e} {e'} {s} {r} q g = subst (λ (x : Walked). Reached e e' many s r x) q g
+  pub reached_as : {e e' : Emitter} {i j : ℕ} {w v : Walked} → w ≡ v → Reached e e' many i j w → Reached e e' many i j v
+  reached_as {e} {e'} {i} {j} q g = subst (λ (x : Walked). Reached e e' many i j x) q g
 
-  pub reached_none : (e : Emitter) {s : Place} → s.span ≤ many → Reached e e many s s (walked [] s.row s.span)
+  pub reached_none : (e : Emitter) {i j : ℕ} → j ≤ many → Reached e e many i j (walked [] i j)
   reached_none e g = record { wrote = emits_none e; row = refl; span = refl; within = g }
 
--- a row's first item, its second, and the count where it has one
-pub items_emitted : (H : Held) (i : ℕ) (ss : List Span) {e e₁ e₂ e₃ : Emitter} {tag f a b g w c d : ℕ} {last : List ℕ} → tag ≡ row_word H.rows i 0
+---- a row's items
+
+item_as : (s : List ℕ) (l : List (List ℕ)) (ss : List Span) {k k' a a' b b' : ℕ} → k ≡ k' → a ≡ a' → b ≡ b' → item_bytes s l ss k a b ≡ item_bytes s l ss k' a' b'
+item_as s l ss p q r = λ i. item_bytes s l ss (p i) (q i) (r i)
+
+-- the first, and the second
+pub both_emitted : (H : Held) (i : ℕ) (ss : List Span) {e e₁ e₂ : Emitter} {tag f a b g w c d : ℕ} → tag ≡ tag_at H.rows i
     → f ≡ first_form tag → a ≡ row_word H.rows i 1 → b ≡ row_word H.rows i 2 → Emits e e₁ (item_bytes H.store H.pool ss f a b)
     → g ≡ second_form tag → w ≡ second_word tag → c ≡ row_word H.rows i w → d ≡ row_word H.rows i (w + 1) → Emits e₁ e₂ (item_bytes H.store H.pool ss g c d)
-    → last ≡ when◌then◌else◌ (leb 2 (under_form (row_word H.rows i 0))) (uleb128 (row_word H.rows i (count_word (row_word H.rows i 0)))) [] → Emits e₂ e₃ last → Emits e e₃ (items_bytes H i ss)
-unfolding items_bytes
-items_emitted H i ss et ef ea eb x eg ew ec ed y el z =
+    → Emits e e₂ (both_items H i ss)
+both_emitted H i ss et ef ea eb x eg ew ec ed y =
     let word = ew ∙ ap second_word et in
-    emits_then
-    (emits_then (emits_as (item_as H.store H.pool ss (ef ∙ ap first_form et) ea eb) x)
-    (emits_as (item_as H.store H.pool ss (eg ∙ ap second_form et) (ec ∙ ap (row_word H.rows i) word) (ed ∙ ap (λ (n : ℕ). row_word H.rows i (n + 1)) word)) y)) (emits_as el z)
+    emits_then (emits_as (item_as H.store H.pool ss (ef ∙ ap first_form et) ea eb) x)
+    (emits_as (item_as H.store H.pool ss (eg ∙ ap second_form et) (ec ∙ ap (row_word H.rows i) word) (ed ∙ ap (λ (n : ℕ). row_word H.rows i (n + 1)) word)) y)
+
+-- where there is no second
+pub one_emitted : (H : Held) (i : ℕ) (ss : List Span) {e e₁ : Emitter} {tag f a b g : ℕ} → tag ≡ tag_at H.rows i
+    → f ≡ first_form tag → a ≡ row_word H.rows i 1 → b ≡ row_word H.rows i 2 → Emits e e₁ (item_bytes H.store H.pool ss f a b)
+    → g ≡ second_form tag → g ≡ 0 → Emits e e₁ (both_items H i ss)
+unfolding item_bytes when◌then◌else◌
+one_emitted H i ss {e₁ = e₁} {g = g} et ef ea eb x eg n = both_emitted H i ss et ef ea eb x eg refl refl refl (emits_as (none g _ _ n) (emits_none e₁))
+  where
+    none : (k a b : ℕ) → k ≡ 0 → [] ≡ item_bytes H.store H.pool ss k a b
+    none k a b q = rw q
 
 ---- the loop: what is left to walk from here makes the whole
 
@@ -93,7 +80,7 @@ module _ {many : ℕ} (H : Held) (f : ℕ → ℕ → ℕ → Walked) where
   loop_start e count g = let q : count - 0 ≡ count = omega arith in (record { going = rw q (rest_start e _); row = rw q; span = rw q; within = g })
 
   pub loop_next : {a e e' : Emitter} {s h h' : Place} {count k : ℕ} → Loop many (walk_next H f) a e s h count k → k < count → h.row < row_count H.rows
-      → Reached e e' many h h' (walk_row H f h.row h.span) → Loop many (walk_next H f) a e' s h' count (k + 1)
+      → Reached e e' many h'.row h'.span (walk_row H f h.row h.span) → Loop many (walk_next H f) a e' s h' count (k + 1)
   loop_next {h = h} {h' = h'} {count = count} {k = k} l c u g =
       let z : count - k ≡ suc (count - (k + 1)) = omega arith in
       let v = walk_times (walk_next H f) (count - (k + 1)) in
@@ -124,7 +111,7 @@ module _ {many : ℕ} (H : Held) (f : ℕ → ℕ → ℕ → Walked) where
       span_of w v = unfold and_walk in refl
 
   loop_stop : {e e' : Emitter} {s h : Place} {count k : ℕ} → Loop many (walk_next H f) e e' s h count k → walk_times (walk_next H f) (count - k) h.row h.span ≡ walked [] h.row h.span
-      → Reached e e' many s h (walk_times (walk_next H f) count s.row s.span)
+      → Reached e e' many h.row h.span (walk_times (walk_next H f) count s.row s.span)
   loop_stop l q = record {
     wrote = rest_end l.going (ap (λ (x : Walked). x.bytes) q);
     row = sym (l.row ∙ ap (λ (x : Walked). x.row) q);
@@ -132,11 +119,11 @@ module _ {many : ℕ} (H : Held) (f : ℕ → ℕ → ℕ → Walked) where
     within = l.within;
   }
 
-  pub loop_end : {e e' : Emitter} {s h : Place} {count k : ℕ} → Loop many (walk_next H f) e e' s h count k → count ≤ k → Reached e e' many s h (walk_times (walk_next H f) count s.row s.span)
+  pub loop_end : {e e' : Emitter} {s h : Place} {count k : ℕ} → Loop many (walk_next H f) e e' s h count k → count ≤ k → Reached e e' many h.row h.span (walk_times (walk_next H f) count s.row s.span)
   unfolding walk_times
   loop_end {count = count} {k = k} l g = let z : count - k ≡ 0 = omega arith in loop_stop l (rw z)
 
-  pub loop_past : {e e' : Emitter} {s h : Place} {count k : ℕ} → Loop many (walk_next H f) e e' s h count k → row_count H.rows ≤ h.row → Reached e e' many s h (walk_times (walk_next H f) count s.row s.span)
+  pub loop_past : {e e' : Emitter} {s h : Place} {count k : ℕ} → Loop many (walk_next H f) e e' s h count k → row_count H.rows ≤ h.row → Reached e e' many h.row h.span (walk_times (walk_next H f) count s.row s.span)
   loop_past {h = h} {count = count} {k = k} l g = loop_stop l (times_past H f (count - k) h.row h.span g)
 
 pub walk_none : (H : Held) (d i j : ℕ) → walk H d 0 i j ≡ walked [] i j
@@ -146,48 +133,43 @@ walk_none H (suc d) i j = refl
 
 ---- a row
 
-pub record Between (low high k : ℕ) : Type 0 where
-  pub above : low ≤ k
-  pub below : k ≤ high
+-- its bytes, with the spans that its code has
+pub head_reached : (H : Held) (i j : ℕ) {e e' : Emitter} {j' : ℕ} → j' ≡ span_after H i j → j' ≤ length H.spans / 2
+    → Emits e e' (head_bytes H i (spans_of (take (2 * j' - 2 * j) (drop (2 * j) H.spans)))) → Reached e e' (length H.spans / 2) (i + 1) j' (head_walk H i j)
+unfolding row_spans
+head_reached H i j es h g = record {
+  wrote = emits_as (ap (λ (k : ℕ). head_bytes H i (spans_of (take (2 * k - 2 * j) (drop (2 * j) H.spans)))) es) g;
+  row = refl;
+  span = es;
+  within = h;
+}
 
-pub after_within : (H : Held) (i j r : ℕ) → r ≡ span_after H i j → j ≤ length H.spans / 2 → Between j (length H.spans / 2) r
-unfolding span_after
-after_within H i j r e h = record { above = omega arith; below = omega arith }
-
-module _ (s pl rs t : List ℕ) where
-  -- a row's own bytes
-  abbrev head_walk : Place → Walked
-  head_walk st = walked (head_bytes (held s pl rs t) st.row (row_spans (held s pl rs t) st.row st.span)) (st.row + 1) (span_after (held s pl rs t) st.row st.span)
-
-  pub head_reached : {e e' : Emitter} {st m : Place} → m.row ≡ st.row + 1 → m.span ≡ span_after (held s pl rs t) st.row st.span → m.span ≤ length t / 2
-      → Emits e e' (head_bytes (held s pl rs t) st.row (spans_of (take (2 * m.span - 2 * st.span) (drop (2 * st.span) t)))) → Reached e e' (length t / 2) st m (head_walk st)
-  unfolding row_spans
-  head_reached {st = st} er es h g = record {
-    wrote = emits_as (ap (λ (k : ℕ). head_bytes (held s pl rs t) st.row (spans_of (take (2 * k - 2 * st.span) (drop (2 * st.span) t)))) es) g;
-    row = er;
-    span = es;
-    within = h;
-  }
-
-  pub row_reached : (f : ℕ → ℕ → ℕ → Walked) {e e' e'' : Emitter} {st m r : Place} {n v : ℕ} → v ≡ under_form (row_word rs st.row 0) → (v ≡ 4 → ⊥) → n ≡ rows_under (held s pl rs t) st.row
-      → Reached e e' (length t / 2) st m (head_walk st) → Reached e' e'' (length t / 2) m r (f n m.row m.span) → Reached e e'' (length t / 2) st r (walk_row (held s pl rs t) f st.row st.span)
+-- the row i of a table that is the walk's, from the span j on, with those under it
+module _ (s pl rs t : List ℕ) (i j : ℕ) {rows : List ℕ} (same : rows ≡ rs) where
+  pub row_reached : (f : ℕ → ℕ → ℕ → Walked) {e e' e'' : Emitter} {i₁ j₁ i₂ j₂ n : ℕ} {test : Bool} → test ≡ eqb (under_form (tag_at rows i)) 4 → test ≡ false → n ≡ rows_under rows i
+      → Reached e e' (length t / 2) i₁ j₁ (head_walk (held s pl rows t) i j) → Reached e' e'' (length t / 2) i₂ j₂ (f n i₁ j₁) → Reached e e'' (length t / 2) i₂ j₂ (walk_row (held s pl rs t) f i j)
   unfolding walk_row when◌then◌else◌
-  row_reached f {n = n} {v = v} ev ne en a b = rw (← ev, ne_eqb v 4 ne, ← en) (reached_then (f n) a b)
+  row_reached f {n = n} et ef en a b =
+      let et' = rw same at et in
+      let en' = rw same at en in
+      rw (← et', ef, ← en') (reached_then (f n) (rw same at a) b)
 
-  pub closure_reached : (f : ℕ → ℕ → ℕ → Walked) {e e' e'' e₃ e₄ : Emitter} {st m m' m'' r : Place} {n v : ℕ} → v ≡ under_form (row_word rs st.row 0) → v ≡ 4 → n ≡ rows_under (held s pl rs t) st.row
-      → Reached e e' (length t / 2) st m (head_walk st) → Reached e' e'' (length t / 2) m m' (f 1 m.row m.span)
-      → m''.row ≡ m'.row → m''.span ≡ m'.span → Emits e'' e₃ (items_bytes (held s pl rs t) st.row [])
-      → Reached e₃ e₄ (length t / 2) m'' r (f n m''.row m''.span) → Reached e e₄ (length t / 2) st r (walk_row (held s pl rs t) f st.row st.span)
+  pub closure_reached : (f : ℕ → ℕ → ℕ → Walked) {e e₁ e₂ e₃ e₄ : Emitter} {i₁ j₁ i₂ j₂ i₃ j₃ n : ℕ} {test : Bool}
+      → test ≡ eqb (under_form (tag_at rows i)) 4 → test ≡ true → n ≡ rows_under rows i
+      → Reached e e₁ (length t / 2) i₁ j₁ (head_walk (held s pl rows t) i j) → Reached e₁ e₂ (length t / 2) i₂ j₂ (f 1 i₁ j₁) → Emits e₂ e₃ (items_bytes (held s pl rows t) i [])
+      → Reached e₃ e₄ (length t / 2) i₃ j₃ (f n i₂ j₂) → Reached e e₄ (length t / 2) i₃ j₃ (walk_row (held s pl rs t) f i j)
   unfolding walk_row when◌then◌else◌
-  closure_reached f {e'' = e''} {e₃ = e₃} {st = st} {m' = m'} {m'' = m''} {n = n} {v = v} ev y en a b er es c d =
-      let items : ℕ → ℕ → Walked = walked (items_bytes (held s pl rs t) st.row []) in
-      let mid : Reached e'' e₃ (length t / 2) m' m'' (items m'.row m'.span) = record { wrote = c; row = er; span = es; within = omega (arith, b.within, es) } in
-      rw (← ev, eq-eqb v 4 y, ← en)
-      (reached_then (λ i j. and_walk (f 1 i j) (λ i' j'. and_walk (items i' j') (f n))) a (reached_then (λ i j. and_walk (items i j) (f n)) b (reached_then (f n) mid d)))
+  closure_reached f {e₂ = e₂} {e₃ = e₃} {i₂ = i₂} {j₂ = j₂} {n = n} et ey en a b c d =
+      let et' = rw same at et in
+      let en' = rw same at en in
+      let items : ℕ → ℕ → Walked = walked (items_bytes (held s pl rs t) i []) in
+      let mid : Reached e₂ e₃ (length t / 2) i₂ j₂ (items i₂ j₂) = record { wrote = rw same at c; row = refl; span = refl; within = b.within } in
+      rw (← et', ey, ← en')
+      (reached_then (λ i j. and_walk (f 1 i j) (λ i' j'. and_walk (items i' j') (f n))) (rw same at a) (reached_then (λ i j. and_walk (items i j) (f n)) b (reached_then (f n) mid d)))
 
   -- a row with nothing under it
-  pub row_none : (d : ℕ) {e e' : Emitter} {st m : Place} {n v : ℕ} → v ≡ under_form (row_word rs st.row 0) → (v ≡ 4 → ⊥) → n ≡ rows_under (held s pl rs t) st.row → n ≡ 0
-      → Reached e e' (length t / 2) st m (head_walk st) → Reached e e' (length t / 2) st m (walk_row (held s pl rs t) (walk (held s pl rs t) d) st.row st.span)
-  row_none d {e' = e'} {m = m} ev ne en z a =
-      row_reached (walk (held s pl rs t) d) ev ne en a
-      (reached_as (sym (ap (λ (k : ℕ). walk (held s pl rs t) d k m.row m.span) z ∙ walk_none (held s pl rs t) d m.row m.span)) (reached_none e' a.within))
+  pub row_none : (d : ℕ) {e e' : Emitter} {i₁ j₁ n : ℕ} {test : Bool} → test ≡ eqb (under_form (tag_at rows i)) 4 → test ≡ false → n ≡ rows_under rows i → n ≡ 0
+      → Reached e e' (length t / 2) i₁ j₁ (head_walk (held s pl rows t) i j) → Reached e e' (length t / 2) i₁ j₁ (walk_row (held s pl rs t) (walk (held s pl rs t) d) i j)
+  row_none d {e' = e'} {i₁ = i₁} {j₁ = j₁} et ef en z a =
+      row_reached (walk (held s pl rs t) d) et ef en a
+      (reached_as (sym (ap (λ (k : ℕ). walk (held s pl rs t) d k i₁ j₁) z ∙ walk_none (held s pl rs t) d i₁ j₁)) (reached_none e' a.within))

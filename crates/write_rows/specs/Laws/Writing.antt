@@ -86,7 +86,8 @@ obeyed_tall d (node t is ks ts) h =
 
 ---- the line index
 
-line_is : (l : List (List ℕ)) (x : Option (LineIndex Part)) (flag : ℕ) (name starts : List ℕ) → flag ≡ line_flag x → name ≡ (line_name x).bytes → starts ≡ line_starts x → line_bytes l flag name starts ≡ write_line_index l (forget_line x)
+line_is : (l : List (List ℕ)) (x : Option (LineIndex Part)) (flag : ℕ) (name starts : List ℕ) → flag ≡ line_flag x → name ≡ (line_name x).bytes → starts ≡ line_starts x
+    → line_bytes l flag name starts ≡ write_line_index l (forget_line x)
 unfolding line_bytes write_line_index when◌then◌else◌ line_flag line_name line_starts forget_line
 line_is l none flag name starts e f g = rw e
 line_is l (some y) flag name starts e f g = rw (e, f, g)

@@ -31,5 +31,5 @@ returns-clause-is g c =
 
 pub returns-clause-small : goal.returns-clause-small
 returns-clause-small g c =
-    let bytes : Bytes c.args.bytes.now = λ k. omega (arith, c.shared_slice_known-1.given k) in
+    let bytes : Bytes c.args.bytes.now = λ k. omega (arith, c.type_inv.bytes k) in
     rw (returns-clause-is g c, ← c.requires.0) (from_le_bytes_lt c.args.bytes.now bytes)

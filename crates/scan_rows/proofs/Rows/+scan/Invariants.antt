@@ -1,3 +1,4 @@
+-- The scan's depth falls, or the calls at one depth follow in one order; what its loops have scanned so far.
 use Prim.Native.Nat.{ℕ, ◌+◌, ◌*◌}
 use Rattle.payload.specs.Scan.{scan_value}
 use Rattle.scan_rows.specs.Laws.Entries.{Keyed}
@@ -22,8 +23,11 @@ decreases-scan_member l = 8 * l.depth + 1 + rank l.member
 abbrev pub decreases-scan_many : goal.decreases-scan_many
 decreases-scan_many l = 8 * l.depth + 2 + rank l.member
 
-abbrev pub decreases-scan_untagged : goal.decreases-scan_untagged
-decreases-scan_untagged l = 8 * l.depth + 3
+abbrev pub decreases-scan_chunk : goal.decreases-scan_chunk
+decreases-scan_chunk l = 8 * l.depth + 3
+
+abbrev pub decreases-scan_field : goal.decreases-scan_field
+decreases-scan_field l = 8 * l.depth + 3
 
 abbrev pub decreases-scan_entries : goal.decreases-scan_entries
 decreases-scan_entries l = 8 * l.depth + 3
@@ -39,4 +43,4 @@ invariant-scan_many-loop l =
     Many l.self.words.now (scan_member l.self.store.now (scan_value l.self.store.now l.depth) l.member) l.n l.i l.counter l.at
 
 abbrev pub invariant-scan_entries-loop : goal.invariant-scan_entries-loop
-invariant-scan_entries-loop l = Keyed l.self.store.now l.self.words.now l.width l.depth l.n l.i l.counter l.at
+invariant-scan_entries-loop l = Keyed l.self.store.now l.self.words.now l.gap l.depth l.n l.i l.counter l.at

@@ -1,10 +1,7 @@
 -- `scan_rows::Rows::code_is` meets its contract: at each turn the sum of the rows passed is what was taken from the count.
 use native.Mathlib.Omega.{arith}
-use Rattle.scan_rows.specs.Laws.Code.{covered_start, covered_next, covered_short, covered_end}
+use Rattle.scan_rows.specs.Laws.Code.{covered_next, covered_short, covered_end}
 use Rattle.scan_rows.proofs.Rows.code_is.Goals as goal
-
-pub loop-i-init : goal.loop-i-init
-loop-i-init c = covered_start
 
 pub returns-then-left-n : goal.returns-then-left-n
 returns-then-left-n c = covered_short c.loop-i.invariant (omega (arith, c.count-i-end.ensures, c.loop-i-test.true)) c.code_length-n.ensures c.if-left-n.true

@@ -1,5 +1,5 @@
 -- `scan_rows::Rows::spans_fit` meets its contract: the count first; at each turn all spans are small exactly where those from here on are.
-use mathlib.Core.Path.{refl, sym, ◌∙◌}
+use mathlib.Core.Path.{sym, ◌∙◌}
 use native.Mathlib.Omega.{arith}
 use Rattle.payload.specs.Choice.{◌and◌}
 use Rattle.scan_rows.specs.Code.{spans_fit}
@@ -9,9 +9,6 @@ use Rattle.scan_rows.proofs.Rows.spans_fit.Goals as goal
 pub returns-then-not-code_is : goal.returns-then-not-code_is
 unfolding spans_fit ◌and◌
 returns-then-not-code_is c = rw (sym c.if-not-code_is.ensures)
-
-pub loop-i-init : goal.loop-i-init
-loop-i-init c = refl
 
 pub returns-then-spans-i-ge9223372036854775808 : goal.returns-then-spans-i-ge9223372036854775808
 unfolding spans_fit ◌and◌

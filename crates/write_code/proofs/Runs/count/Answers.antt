@@ -1,21 +1,25 @@
--- `write_code::Runs::count` meets its contract: a span that differs from the next ends a run, and the last span ends one.
-use Rattle.std.proofs.Common.{true, false, arith}
-use Rattle.write_code.specs.Laws.Runs.{counted_next, counted_end, counted_none}
-use Rattle.write_code.proofs.Runs.count.Goals.{else-spans-k, then-spans-k}
+-- `write_code::Runs::count` meets its contract: a span that differs from the one before begins a run, and the first span begins one.
+use Rattle.std.proofs.Common.{sym, arith, refl}
+use Rattle.payload.specs.Spans.{runs_of}
+use Rattle.write_code.specs.Laws.Runs.{length_spans}
+use Rattle.write_code.specs.Laws.Length.{counted_first, counted_same, counted_other, counted_end}
 use Rattle.write_code.proofs.Runs.count.Goals as goal
 
-pub returns-then-count-eq0 : goal.returns-then-count-eq0
-returns-then-count-eq0 c = counted_none _ c.if-count-eq0.true
+pub returns-in_default : goal.returns-in_default
+unfolding runs_of
+returns-in_default c = rw c.in_default.ensures.none refl
 
-pub loop-k-preserved : goal.loop-k-preserved
-loop-k-preserved c =
-    let l = c.loop-k in
-    let w = c.args.self.now.spans.now in
-    elim c.if-spans-k.branch [
-      | then-spans-k x ↦ counted_next w l.k l.n c.if-spans-k.n _ true l.invariant (omega arith) x.if-spans-k.true x.n-is
-      | else-spans-k x ↦ counted_next w l.k l.n c.if-spans-k.n _ false l.invariant (omega arith) x.if-spans-k.false (omega (arith, x.n-is))
-    ]
+pub loop-next-init : goal.loop-next-init
+loop-next-init c = rw c.in-Some.ensures.some (counted_first _ _)
+
+pub overflow_add-n : goal.overflow_add-n
+overflow_add-n c = omega (arith, c.loop-next.invariant.few, length_spans c.args.self.spans.now)
+
+pub loop-next-preserved-then-not-has : goal.loop-next-preserved-then-not-has
+loop-next-preserved-then-not-has c = counted_other (rw c.in-Some-split_first.ensures.some at c.loop-next.invariant) (sym c.if-not-has.ensures)
+
+pub loop-next-preserved : goal.loop-next-preserved
+loop-next-preserved c = counted_same (rw c.in-Some-split_first.ensures.some at c.loop-next.invariant) (sym c.if-not-has.ensures)
 
 pub returns : goal.returns
-returns c =
-    counted_end c.args.self.now.spans.now c.loop-k.k c.loop-k.n _ (omega arith) c.loop-k.invariant (omega arith)
+returns c = counted_end (rw c.in_default-split_first.ensures.none at c.loop-next.invariant)

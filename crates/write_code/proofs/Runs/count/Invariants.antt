@@ -1,8 +1,12 @@
-use Rattle.std.proofs.Common.{◌-◌, ◌*◌, ◌/◌, length, drop}
+-- The invariant of the walk over spans in `Runs::count`.
+use Rattle.std.proofs.Common.{length}
 use Rattle.payload.specs.Sound.{spans_of}
-use Rattle.payload.specs.Spans.{runs_of}
-use Rattle.write_code.specs.Laws.Runs.{Counted}
+use Rattle.write_code.specs.Runs.{span}
+use Rattle.write_code.specs.Laws.Length.{Counted}
 use Rattle.write_code.proofs.Runs.count.Given as goal
 
-abbrev pub invariant-loop-k : goal.invariant-loop-k
-invariant-loop-k l = Counted (length l.spans / 2 - 1) l.k l.n (length (runs_of (spans_of l.spans))) (length (runs_of (spans_of (drop (2 * l.k) l.spans))))
+abbrev pub invariant-loop-next : goal.invariant-loop-next
+invariant-loop-next l = Counted (spans_of l.fn.self.spans.now) (span l.last.start.offset l.last.end.offset) (spans_of l.rest.spans.now) l.n
+
+abbrev pub decreases-loop-next : goal.decreases-loop-next
+decreases-loop-next l = length (spans_of l.rest.spans.now)

@@ -1,5 +1,12 @@
+-- The invariant of the walk over spans in `Runs::length`.
+use Rattle.std.proofs.Common.{length}
+use Rattle.payload.specs.Sound.{spans_of}
+use Rattle.write_code.specs.Runs.{span}
 use Rattle.write_code.specs.Laws.Length.{Measured}
 use Rattle.write_code.proofs.Runs.length.Given as goal
 
-abbrev pub invariant-loop-k : goal.invariant-loop-k
-invariant-loop-k l = Measured l.self.spans.now l.begun l.k l.last.start.offset l.last.end.offset l.runs l.length
+abbrev pub invariant-loop-next : goal.invariant-loop-next
+invariant-loop-next l = Measured (spans_of l.fn.self.spans.now) (span l.last.start.offset l.last.end.offset) (spans_of l.rest.spans.now) l.runs l.n l.length
+
+abbrev pub decreases-loop-next : goal.decreases-loop-next
+decreases-loop-next l = length (spans_of l.rest.spans.now)

@@ -1,26 +1,18 @@
--- `write_rows::Writing::write_items` meets its contract: the first item, the second, and the count where there is one.
-use Rattle.std.proofs.Common.{ap, ◌∙◌, arith}
-use Rattle.emit.specs.Laws.Emitter.{emits_none}
-use Rattle.row_layout.specs.Layout.{under_form, count_word}
-use Rattle.row_layout.specs.Laws.Layout.{second_word_low}
-use Rattle.write_rows.specs.Laws.Walk.{items_emitted, count_yes, count_no}
-use Rattle.write_rows.specs.Walk.{row_word}
+-- `write_rows::Writing::write_items` meets its contract: the items, and the count where there is one.
+use Rattle.std.proofs.Common.{[], ap, ◌∙◌, refl}
+use Rattle.varint.specs.Uleb128.{uleb128}
+use Rattle.emit.specs.Laws.Emitter.{emits_then, emits_as, emits_none}
+use Rattle.write_rows.specs.Laws.Tests.{counted, uncounted, count_is, when_yes, when_no}
+use Rattle.write_rows.specs.Walk.{items_bytes}
 use Rattle.write_rows.proofs.Writing.write_items.Goals as goal
 
-pub overflow_add-w : goal.overflow_add-w
-overflow_add-w c = omega (arith, c.second_word-w.ensures, second_word_low c.word-tag.result)
+pub returns-in-Counted : goal.returns-in-Counted
+unfolding items_bytes
+returns-in-Counted c =
+    let count = count_is c.args.row.table.now c.args.row.number c.word.ensures c.count_word.ensures c.tag-tag.ensures in
+    emits_then c.write_both_items-next.ensures (emits_as (ap uleb128 count ∙ when_yes _ [] (counted _ c.in-Counted.is c.under_form.ensures c.tag-tag.ensures) refl) c.varint.ensures)
 
-pub returns-then-under_form-ge2 : goal.returns-then-under_form-ge2
-returns-then-under_form-ge2 c =
-    let tag = c.word-tag.ensures.value in
-    let count = c.word-then-under_form-ge2.ensures.value ∙ ap (row_word c.args.self.now.tables.rows.now c.args.i) (c.count_word.ensures ∙ ap count_word tag) in
-    items_emitted _ _ _ tag c.first_form-first.ensures c.word.ensures.value c.word-2.ensures.value c.write_item-second_expected.ensures
-    c.second_form-second.ensures c.second_word-w.ensures c.word-3.ensures.value c.word-4.ensures.value c.write_item-next.ensures
-    (count_yes (c.under_form.ensures ∙ ap under_form tag) c.if-under_form-ge2.true count) c.varint.ensures
-
-pub returns-else-under_form-ge2 : goal.returns-else-under_form-ge2
-returns-else-under_form-ge2 c =
-    let tag = c.word-tag.ensures.value in
-    items_emitted _ _ _ tag c.first_form-first.ensures c.word.ensures.value c.word-2.ensures.value c.write_item-second_expected.ensures
-    c.second_form-second.ensures c.second_word-w.ensures c.word-3.ensures.value c.word-4.ensures.value c.write_item-next.ensures
-    (count_no _ (c.under_form.ensures ∙ ap under_form tag) c.if-under_form-ge2.false) (emits_none _)
+pub returns-in-Nothing : goal.returns-in-Nothing
+unfolding items_bytes
+returns-in-Nothing c =
+    emits_then c.write_both_items-next.ensures (emits_as (when_no _ [] (uncounted _ c.in-Nothing.is c.under_form.ensures c.tag-tag.ensures) refl) (emits_none _))

@@ -1,8 +1,0 @@
-use mathlib.Core.Path.{◌≡◌}
-use Prim.Native.Nat.{◌-◌}
-use Rattle.payload.specs.Rows.{row_width}
-use Rattle.scan_rows.specs.Row.{zeros_from}
-use Rattle.scan_rows.proofs.Rows.zero_from.Given as goal
-
-abbrev pub invariant-loop-j : goal.invariant-loop-j
-invariant-loop-j l = zeros_from l.self.words.now l.i l.k (row_width - l.k) ≡ zeros_from l.self.words.now l.i l.j (row_width - l.j)
