@@ -142,7 +142,7 @@ impl<'a> Strings<'a> {
     }
 
     // Adds the hints.
-    pub fn add_hints(&mut self, names: &[u8])
+    pub(crate) fn add_hints(&mut self, names: &[u8])
         requires { (1024 ≤ length names.now) × (1 < length self.old.pool.now) }
         ensures { Keeps self.old self.new }
     {
@@ -206,7 +206,7 @@ fn eights(bytes: &[u8], at: usize) -> usize
 // Whether hints are likely to save more than they cost. To add them takes about 2 ns for each byte of the list and 28 ns for each string that is linked; a search takes
 // about 1/12 ns for each byte of the list. So they pay from 24 searches on where strings are few, and twice as many are asked for. Bytes 08 that are no native's are about one in a
 // hundred: either there must be more of them, or the cost must be little beside that of reading, which is about 2 ns for each byte.
-pub fn pay(names: &[u8], cursor: Cursor<'_>, pool: &[u64]) -> bool
+pub(crate) fn pay(names: &[u8], cursor: Cursor<'_>, pool: &[u64]) -> bool
     ensures { result ≡ true → (1024 ≤ length names.now) × (1 < length pool.now) }
 {
     if names.len() < LONG_LIST {
@@ -232,7 +232,7 @@ pub fn pay(names: &[u8], cursor: Cursor<'_>, pool: &[u64]) -> bool
 }
 
 // Takes away all that stands above the base.
-pub fn take_away(pool: &mut [u64])
+pub(crate) fn take_away(pool: &mut [u64])
     ensures { pool.new ≡ plain_words pool.old }
 {
     for word in pool {

@@ -21,7 +21,7 @@ impl ScriptTables<'_> {
     ghost use Rattle.deserialize.specs.Tables.{Clears, ReadsScript};
 
     // Zeros in each.
-    pub fn clear(&mut self)
+    pub(crate) fn clear(&mut self)
         ensures { Clears self.old self.new }
     {
         self.rows.fill(0);
@@ -30,7 +30,7 @@ impl ScriptTables<'_> {
     }
 
     // Reads the outer chunk and the line index. A refusal leaves zeros alone: the reader that refuses clears its own tables, and the others are cleared here, each once.
-    pub fn read(&mut self, mut items: Items<'_>, names: &[u8]) -> Result<Counts, Refusal>
+    pub(crate) fn read(&mut self, mut items: Items<'_>, names: &[u8]) -> Result<Counts, Refusal>
         ensures { ReadsScript self.old self.new items.entry.cursor items.entry.pool.now names.now result }
     {
         let source = Source {

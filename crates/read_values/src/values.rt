@@ -159,7 +159,7 @@ impl Decoder<'_, '_> {
 
     // A chunk row: its code and spans, and its constants.
     #[cycle(values)]
-    pub fn read_chunk(&mut self, left: usize) -> Result<(), Refusal>
+    pub(crate) fn read_chunk(&mut self, left: usize) -> Result<(), Refusal>
         ensures { Does one_tree self.old self.new result (λ e. read_chunk_row e (read_value e left)) }
     {
         if self.source.capacities.rows <= self.state.rows {

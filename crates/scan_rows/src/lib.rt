@@ -120,7 +120,8 @@ impl Rows<'_> {
         o <= end && n <= end - o
     }
 
-    // The same for an item that is there and no string. A call, so that what stands before it is two tests: the jump by the test is often guessed wrong.
+    // Whether a word, or a part, passes the test of an item that is no string. A call, so that a string is told from the others by one test before it: the jump by the
+    // test is often guessed wrong.
     #[inline(never)]
     #[tactic(auto, unfolding(crate::specs::Fits::words_fit, crate::specs::Fits::number_fits))]
     fn other_item_fits(&self, test: Test, a: u64, b: u64) -> bool

@@ -17,7 +17,7 @@ pub fn half(s: &[u8], i: usize) -> u64
     u64::from(u32::from_le_bytes(bytes))
 }
 
-// The same for eight bytes, compiled to one load. Each width has its own function in std, so one function over both would only call them.
+// The same for eight bytes. Each width has its own function in std, so one function over both would only call them.
 pub fn word(s: &[u8], i: usize) -> u64
     requires { i + 8 ≤ length s.now }
     ensures { result ≡ from_le_bytes (take 8 (drop i s.now)) }
@@ -72,7 +72,7 @@ fn equal_ends(a: &[u8], b: &[u8]) -> bool
     word(a, 0) == word(b, 0) && word(a, last) == word(b, last)
 }
 
-// Whether two byte strings are equal. Those of 8 to 16 bytes, as many titles have, are two words that overlap, which takes a fifth less than a call of std's comparison.
+// Whether two byte strings are equal. Those of 8 to 16 bytes, as many names have, are two words that overlap, which takes a fifth less than a call of std's comparison.
 pub fn equal(a: &[u8], b: &[u8]) -> bool
     ensures { result ≡ same a.now b.now }
 {

@@ -65,7 +65,8 @@ fn write_chunk(emitter: &mut Emitter, code: &[u8], spans: Runs)
     emitter.part(&spans);
 }
 
-// How many rows are under a row; of a closure, after the first. A count is cut to how many rows the table has, as no scan of the rows comes before a measure.
+// How many rows are under a row; of a closure, after the first. A count is cut to how many rows the table has, since the walk does not ask that
+// the rows are sound.
 fn rows_under(row: Row<'_>) -> u64
     ensures { result ≡ rows_under row.entry.table.now row.entry.number }
 {

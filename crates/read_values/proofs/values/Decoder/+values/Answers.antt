@@ -153,8 +153,6 @@ read_fields-loop-k-preserved t c = sofar_next c.loop-k.invariant c.loop-k-test.t
 pub read_fields-returns : goal.read_fields-returns
 read_fields-returns t c = sofar_end c.loop-k.invariant c.loop-k-test.false
 
----- the values between two keys
-
 ---- what stands under a row
 
 pub read_under-returns-in-Function : goal.read_under-returns-in-Function
