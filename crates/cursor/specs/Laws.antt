@@ -1,3 +1,4 @@
+pub mod Body
 pub mod Varint
 pub mod Reads
 pub mod Sofar

@@ -1,3 +1,4 @@
+pub mod Body
 pub mod Reads
 pub mod Advances
 pub mod Laws

@@ -3,6 +3,7 @@
 #![tactic(auto)]
 
 ghost use Rattle.std.specs.Prelude.{◌≡◌, ◌+◌, ◌≤◌, true, false, length, drop, is_some};
+ghost use Rattle.slices.specs.LittleEndian.{to_le_bytes};
 ghost use Rattle.slices.specs.Put.{put};
 ghost use Rattle.emit.specs.Emit.{further, place_after, stopped, output_limit};
 ghost use Rattle.emit.specs.Expected.{bytes_of};
@@ -55,6 +56,18 @@ fn store_body(out: &mut [u8], at: usize, s: &[u8])
 {
     let k = s.len().min(out.len() - at);
     slices::copy_part(out, at, &s[..k]);
+}
+
+// The n lowest bytes of w from `at` on, the lowest first.
+fn store_number(out: &mut [u8], at: usize, w: u64, n: usize)
+    requires { at + n ≤ length out.old }
+    ensures { out.new ≡ put out.old at (to_le_bytes n w) }
+{
+    let mut rest = w;
+    for i in 0..n {
+        out[at + i] = (rest % 256) as u8;
+        rest /= 256;
+    }
 }
 
 // What is expected from a place on.
@@ -194,6 +207,13 @@ impl Emitter<'_, '_> {
     {
         if self.only_measures() {
             return self.advance(n);
+        }
+        // Where all have room they are stored one behind another, without the place in between: a float takes a quarter less.
+        if self.has_room(n) {
+            let at = self.at;
+            store_number(self.out, at, w, n);
+            self.at = at + n;
+            return;
         }
         let mut rest = w;
         for _i in 0..n {

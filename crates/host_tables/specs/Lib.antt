@@ -1,2 +1,3 @@
 pub mod HostTables
+pub mod Laws
 pub mod Write

@@ -115,3 +115,15 @@ pub fn put_listing(answer: Result<Counts, Refusal>, rows: &[u64], out: &mut [u8]
     text.put_all(answer, rows);
     text.end
 }
+
+// The text of a read that was refused with any number, also one that no reason has: the last line alone.
+pub fn put_refusal(number: u64, place: usize, out: &mut [u8]) -> usize
+    requires { 43 ≤ length out.old }
+    ensures value { result ≡ length (answer_line number place) }
+    ensures out_after { out.new ≡ put out.old 0 (answer_line number place) }
+    ensures upper_bound { result ≤ length out.new }
+{
+    let mut text = Text { out, end: 0 };
+    text.put_answer(number, place);
+    text.end
+}

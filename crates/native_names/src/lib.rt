@@ -22,7 +22,8 @@ fn begins_at(names: &[u8], from: usize) -> bool
     from == 0 || names[from - 1] == 0x0A
 }
 
-// Whether the string is a name that ends at i.
+// Whether the string is a name that ends at i. Inlined: as a call for each place that may end a name, a list without hints takes half as long again.
+#[inline(always)]
 #[tactic(auto, using(crate::proofs::Listed::name_ends, crate::proofs::Listed::name_starts, crate::proofs::Listed::name_same))]
 fn ends_at(names: &[u8], i: usize, name: &[u8]) -> bool
     requires { (i < length names.now) × (length name.now ≤ i) }

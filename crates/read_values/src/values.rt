@@ -86,7 +86,8 @@ impl Decoder<'_, '_> {
         self.read_under(deep, class, head.count)
     }
 
-    // What stands under a row that has been stored, of a value that is no closure.
+    // What stands under a row that has been stored, of a value that is no closure. Inlined, as `read_named` of read_heads is.
+    #[inline(always)]
     #[cycle(values)]
     fn read_under(&mut self, left: usize, class: Class, count: u64) -> Result<(), Refusal>
         requires { class ≡ Class.Function → count ≡ 1 }

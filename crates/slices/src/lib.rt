@@ -55,12 +55,14 @@ pub fn zero_from<W: Zero>(t: &mut [W], from: usize)
     }
 }
 
-// Copies s into out from index `at` on.
+// Copies s into out from index `at` on. A `for`: with `copy_from_slice` the archives for C would need a memmove from outside.
 pub fn copy_part(out: &mut [u8], at: usize, s: &[u8])
     requires { at + length s.now ≤ length out.old }
     ensures { out.new ≡ put out.old at s.now }
 {
-    out[at..at + s.len()].copy_from_slice(s);
+    for i in 0..s.len() {
+        out[at + i] = s[i];
+    }
 }
 
 // Whether strings of 8 to 16 bytes are equal, by their first word and their last.

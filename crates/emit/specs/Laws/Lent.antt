@@ -1,7 +1,7 @@
 -- What a part's writer did to a lent part of the output, said of the whole.
-use Rattle.std.specs.Prelude.{Bool, cond, ◌&&◌, List, [], ◌++◌, ◌≡◌, refl, ℕ, ◌+◌, ◌-◌, min, leb, length, take, drop}
+use Rattle.std.specs.Prelude.{Bool, cond, ◌&&◌, List, [], ◌++◌, ◌≡◌, refl, ℕ, ◌+◌, ◌-◌, ◌≤◌, min, leb, length, take, drop}
 use Rattle.std.proofs.Math.Bool.{true, false}
-use Rattle.std.proofs.Common.{append-nil, ap, ap₂, ◌∙◌, zero-add, arith, drop_of_length-le, length-drop, take_all}
+use Rattle.std.proofs.Common.{append-nil, ap, ap₂, ◌∙◌, zero-add, arith, drop_of_length-le, length-drop, length-take, take_all}
 use Rattle.std.proofs.Math.Path.{sym}
 use borrow.Author.Tests.{lt-leb, leb-true, leb-false}
 use borrow.Rule.Slice.PartMut.{put_mid, mid_of}
@@ -52,3 +52,7 @@ lent {comparing} {p} {p'} {o} {last} {at} {k} {r} {r'} {b} ek eq er s =
     emitted (ap₂ output
     (ap (λ (l : List ℕ). take k o ++ (last ++ l)) none ∙ ap (λ (l : List ℕ). take k o ++ l) (append-nil last ∙ out) ∙ put_part o k b ∙ ap (λ (n : ℕ). put o n b) ek ∙ put_min o at b)
     (er ∙ ap (further at) to ∙ place_lent comparing p at b))
+
+-- what is lent is no longer than the whole
+pub lent_length : (o : List ℕ) (k : ℕ) → length (mid_of k (length o - k) o) ≤ length o
+lent_length o k = omega (arith, length-take (length o - k) (drop k o), length-drop k o)

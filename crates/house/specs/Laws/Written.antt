@@ -153,6 +153,11 @@ module _ {names p rows spans starts pool : List ℕ} {n : Counts} (h : AcceptedR
         strings_fit = omega (arith, f.strings_fit);
       }
 
+-- the spans that were read are the used words of their table
+pub spans_are : {names p rows spans starts pool : List ℕ} {n : Counts} (w : WasRead names p rows spans starts pool n) → take (2 * n.spans) spans ≡ span_words (span_table (single w.u.script.outer))
+unfolding held_tables tables_of
+spans_are w = ap (λ (U : Tables). U.spans) w.tables_are
+
 ---- what the tests say
 
 not_false : (b : Bool) → false ≡ not b → b ≡ true

@@ -20,7 +20,7 @@ pub returns-in_err-count : goal.returns-in_err-count
 returns-in_err-count c =
     let s = c.in_ok-start.ensures in
     let e = c.in_ok-end.ensures in
-    let k = c.in_err-count.ensures in
+    let k = c.in_err-count.ensures.advances in
     let p = e.payload ∙ s.payload in
     rw (same_error c.from_residual-in_err-count.result _ c.from_residual-in_err-count.ensures.1)
     (record { payload = k.payload ∙ p; reads = no_count _ s.reads (search rules) (on_payload s.payload e) (search rules) (on_payload p k) })
@@ -29,7 +29,7 @@ pub returns : goal.returns
 returns c =
     let s = c.in_ok-start.ensures in
     let e = c.in_ok-end.ensures in
-    let k = c.in_ok-count.ensures in
+    let k = c.in_ok-count.ensures.advances in
     let p = e.payload ∙ s.payload in
     record {
       payload = k.payload ∙ p;

@@ -14,8 +14,8 @@ returns-in_err-start c = λ names pool. rw (same_error c.from_residual.result _ 
 
 pub returns-in_err-count : goal.returns-in_err-count
 unfolding kind_of
-returns-in_err-count c = λ names pool. rw (same_error c.from_residual-in_err-count.result _ c.from_residual-in_err-count.ensures.1) (no_captured c.in_ok-start.ensures c.in_err-count.ensures)
+returns-in_err-count c = λ names pool. rw (same_error c.from_residual-in_err-count.result _ c.from_residual-in_err-count.ensures.1) (no_captured c.in_ok-start.ensures c.in_err-count.ensures.advances)
 
 pub returns : goal.returns
 unfolding kind_of
-returns c = λ names pool. rw c.of_words.ensures (head_closure c.in_ok-start.ensures c.in_ok-count.ensures)
+returns c = λ names pool. rw c.of_words.ensures (head_closure c.in_ok-start.ensures c.in_ok-count.ensures.advances)

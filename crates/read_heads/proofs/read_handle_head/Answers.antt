@@ -13,11 +13,11 @@ unfolding shape_of kinds_of
 returns-in_err-kind c = λ names pool. rw (same_error c.from_residual.result _ c.from_residual.ensures.1) (no_number handle refl c.in_err-kind.ensures)
 
 pub returns-in_err-id : goal.returns-in_err-id
-returns-in_err-id c = λ names pool. rw (same_error c.from_residual-in_err-id.result _ c.from_residual-in_err-id.ensures.1) (no_id c.in_ok-kind.ensures c.in_err-id.ensures)
+returns-in_err-id c = λ names pool. rw (same_error c.from_residual-in_err-id.result _ c.from_residual-in_err-id.ensures.1) (no_id c.in_ok-kind.ensures c.in_err-id.ensures.advances)
 
 pub scalar_head-requires : goal.scalar_head-requires
 unfolding read_number
-scalar_head-requires c = fits_handle c.in_ok-kind.ensures c.in_ok-id.ensures
+scalar_head-requires c = fits_handle c.in_ok-kind.ensures c.in_ok-id.ensures.advances
 
 pub returns : goal.returns
-returns c = λ names pool. rw c.scalar_head.ensures (head_handle c.in_ok-kind.ensures c.in_ok-id.ensures)
+returns c = λ names pool. rw c.scalar_head.ensures (head_handle c.in_ok-kind.ensures c.in_ok-id.ensures.advances)

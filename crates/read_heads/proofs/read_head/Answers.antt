@@ -39,14 +39,14 @@ returns-in_ok-read_cut-in-Varint c = rw c.cut_head.ensures (number_read _ (rw c.
 
 pub returns-in_err-byte-in-Byte : goal.returns-in_err-byte-in-Byte
 unfolding shape_of read_number
-returns-in_err-byte-in-Byte c = number_not_read u8 (rw c.in-Byte.is refl) refl _ c.from_residual-in_err-byte-in-Byte.ensures.1 c.in_err-byte-in-Byte.ensures
+returns-in_err-byte-in-Byte c = number_not_read u8 (rw c.in-Byte.is refl) refl _ c.from_residual-in_err-byte-in-Byte.ensures.1 c.in_err-byte-in-Byte.ensures.advances
 
 pub scalar_head-requires-in-Byte : goal.scalar_head-requires-in-Byte
 scalar_head-requires-in-Byte c = fits_byte (omega (arith, c.from.ensures))
 
 pub returns-in_ok-byte-in-Byte : goal.returns-in_ok-byte-in-Byte
 unfolding shape_of read_number
-returns-in_ok-byte-in-Byte c = rw (c.scalar_head-in-Byte.ensures, c.from.ensures) (number_read u8 (rw c.in-Byte.is refl) refl c.in_ok-byte-in-Byte.ensures)
+returns-in_ok-byte-in-Byte c = rw (c.scalar_head-in-Byte.ensures, c.from.ensures) (number_read u8 (rw c.in-Byte.is refl) refl c.in_ok-byte-in-Byte.ensures.advances)
 
 pub returns-in_err-read_bool-in-Bool : goal.returns-in_err-read_bool-in-Bool
 unfolding shape_of
@@ -119,10 +119,10 @@ returns-in-OneValue c =
 pub returns-in_err-uvarint-in-Values : goal.returns-in_err-uvarint-in-Values
 returns-in_err-uvarint-in-Values c =
     let r = c.from_residual-in_err-uvarint-in-Values in
-    rw (same_error r.result _ r.ensures.1) (record { same_pool = refl; moves = no_count (counts c.in-Values.is) c.in_err-uvarint-in-Values.ensures })
+    rw (same_error r.result _ r.ensures.1) (record { same_pool = refl; moves = no_count (counts c.in-Values.is) c.in_err-uvarint-in-Values.ensures.advances })
 
 pub returns-in_ok-uvarint-in-Values : goal.returns-in_ok-uvarint-in-Values
-returns-in_ok-uvarint-in-Values c = rw c.of_count.ensures (record { same_pool = refl; moves = head_count (counts c.in-Values.is) c.in_ok-uvarint-in-Values.ensures })
+returns-in_ok-uvarint-in-Values c = rw c.of_count.ensures (record { same_pool = refl; moves = head_count (counts c.in-Values.is) c.in_ok-uvarint-in-Values.ensures.advances })
 
 pub returns-in_err-name-in-Record : goal.returns-in_err-name-in-Record
 returns-in_err-name-in-Record c =

@@ -15,7 +15,7 @@ returns-in_err-number c =
     let name = c.in_ok-name.ensures in
     rw (same_error c.from_residual-in_err-number.result _ c.from_residual-in_err-number.ensures.1) (record {
       same_pool = name.same_pool;
-      moves = record { is = λ names cs. then_reads _ (name.moves.is names cs) (stop_reads _ c.in_err-number.ensures); inside = tt };
+      moves = record { is = λ names cs. then_reads _ (name.moves.is names cs) (stop_reads _ c.in_err-number.ensures.advances); inside = tt };
     })
 
 pub returns : goal.returns
@@ -24,5 +24,5 @@ returns c =
     let name = c.in_ok-name.ensures in
     record {
       same_pool = name.same_pool;
-      moves = record { is = λ names cs. then_reads _ (name.moves.is names cs) (then_reads _ c.in_ok-number.ensures (pure_reads _)); inside = name.moves.inside };
+      moves = record { is = λ names cs. then_reads _ (name.moves.is names cs) (then_reads _ c.in_ok-number.ensures.advances (pure_reads _)); inside = name.moves.inside };
     }

@@ -9,14 +9,14 @@ use Rattle.read_lines.proofs.fill_starts.Goals as goal
 
 pub returns-in_err-byte : goal.returns-in_err-byte
 unfolding read_line_index
-returns-in_err-byte c = refuses (same_error c.from_residual.result _ c.from_residual.ensures.1) refl (λ cs names h. here_reads _ (stop_reads _ c.in_err-byte.ensures))
+returns-in_err-byte c = refuses (same_error c.from_residual.result _ c.from_residual.ensures.1) refl (λ cs names h. here_reads _ (stop_reads _ c.in_err-byte.ensures.advances))
 
 pub returns-in-0 : goal.returns-in-0
-returns-in-0 c = record { same_pool = refl; moves = without_lines (rw c.in-0.is at c.in_ok-byte.ensures) }
+returns-in-0 c = record { same_pool = refl; moves = without_lines (rw c.in-0.is at c.in_ok-byte.ensures.advances) }
 
 pub returns-in-1 : goal.returns-in-1
-returns-in-1 c = let after = c.read_flagged.ensures in record { same_pool = after.same_pool; moves = with_lines (rw c.in-1.is at c.in_ok-byte.ensures) after.moves }
+returns-in-1 c = let after = c.read_flagged.ensures in record { same_pool = after.same_pool; moves = with_lines (rw c.in-1.is at c.in_ok-byte.ensures.advances) after.moves }
 
 pub returns-in_default : goal.returns-in_default
 unfolding read_line_index
-returns-in_default c = rw c.at.ensures (refuses refl refl (λ cs names h. here_reads _ (then_reads _ c.in_ok-byte.ensures (must_not_reads _ (lt-leb _ 1 (omega arith)) refl))))
+returns-in_default c = rw c.at.ensures (refuses refl refl (λ cs names h. here_reads _ (then_reads _ c.in_ok-byte.ensures.advances (must_not_reads _ (lt-leb _ 1 (omega arith)) refl))))

@@ -17,16 +17,16 @@ unfolding read_flagged
 returns-in_err-count c =
     let name = c.in_ok-name.ensures in
     refuses (same_error c.from_residual-in_err-count.result _ c.from_residual-in_err-count.ensures.1) name.same_pool
-    (λ cs names h. then_reads _ (name.moves.is names cs) (stop_reads _ c.in_err-count.ensures))
+    (λ cs names h. then_reads _ (name.moves.is names cs) (stop_reads _ c.in_err-count.ensures.advances))
 
 pub returns-in_err-read_starts : goal.returns-in_err-read_starts
 unfolding read_flagged context_of
 returns-in_err-read_starts c =
     let name = c.in_ok-name.ensures in
     refuses (same_error c.from_residual-in_err-read_starts.result _ c.from_residual-in_err-read_starts.ensures.1) name.same_pool
-    (λ cs names h. then_reads _ (name.moves.is names cs) (then_reads _ c.in_ok-count.ensures (stop_reads _ (rw h c.in_err-read_starts.ensures.outcome))))
+    (λ cs names h. then_reads _ (name.moves.is names cs) (then_reads _ c.in_ok-count.ensures.advances (stop_reads _ (rw h c.in_err-read_starts.ensures.outcome))))
 
 pub returns : goal.returns
 returns c =
     let name = c.in_ok-name.ensures in
-    record { same_pool = name.same_pool; moves = record { outcome = flagged name.moves c.in_ok-count.ensures c.in_ok-read_starts.ensures.outcome } }
+    record { same_pool = name.same_pool; moves = record { outcome = flagged name.moves c.in_ok-count.ensures.advances c.in_ok-read_starts.ensures.outcome } }

@@ -8,7 +8,7 @@ use Rattle.read_pool.proofs.fill_pool.Goals as goal
 
 pub returns-in_err-count : goal.returns-in_err-count
 unfolding read_pool
-returns-in_err-count c = rw (same_error c.from_residual.result _ c.from_residual.ensures.1) (record { outcome = stop_reads _ c.in_err-count.ensures })
+returns-in_err-count c = rw (same_error c.from_residual.result _ c.from_residual.ensures.1) (record { outcome = stop_reads _ c.in_err-count.ensures.advances })
 
 pub returns : goal.returns
-returns c = pool_read c.in_ok-count.ensures (omega arith) c.read_strings.ensures
+returns c = pool_read c.in_ok-count.ensures.advances (omega arith) c.read_strings.ensures

@@ -8,12 +8,12 @@ use Rattle.read_pool.proofs.read_string.Goals as goal
 
 pub returns-in_err-length : goal.returns-in_err-length
 unfolding read_string
-returns-in_err-length c = rw (same_error c.from_residual.result _ c.from_residual.ensures.1) (record { is = stop_reads _ c.in_err-length.ensures; inside = tt })
+returns-in_err-length c = rw (same_error c.from_residual.result _ c.from_residual.ensures.1) (record { is = stop_reads _ c.in_err-length.ensures.advances; inside = tt })
 
 pub returns-in_err-take : goal.returns-in_err-take
 unfolding read_string
 returns-in_err-take c = rw (same_error c.from_residual-in_err-take.result _ c.from_residual-in_err-take.ensures.1) (record {
-  is = then_reads _ c.in_ok-length.ensures (here_reads _ (stop_reads _ c.in_err-take.ensures.advances));
+  is = then_reads _ c.in_ok-length.ensures.advances (here_reads _ (stop_reads _ c.in_err-take.ensures.advances));
   inside = tt;
 })
 
@@ -23,15 +23,15 @@ returns-then-is_utf8 c =
     let t = c.in_ok-take.ensures.taken in
     let o = c.uvarint.new.self.at in
     let n = c.in_ok-length.length in
-    let same : c.in_ok-take.field-0.now ≡ take n (drop o c.args.cursor.now.payload.now) = t.are ∙ ap (λ b. take n (drop o b.now)) c.in_ok-length.ensures.payload in
+    let same : c.in_ok-take.field-0.now ≡ take n (drop o c.args.cursor.now.payload.now) = t.are ∙ ap (λ b. take n (drop o b.now)) c.in_ok-length.ensures.advances.payload in
     record {
-      is = rw (← same) (then_reads _ c.in_ok-length.ensures (here_reads _ (then_reads _ c.in_ok-take.ensures.advances (must_reads _ _ (sym c.is_utf8.ensures ∙ c.if-is_utf8.true) (pure_reads _)))));
-      inside = rw c.in_ok-length.ensures.payload at t.inside;
+      is = rw (← same) (then_reads _ c.in_ok-length.ensures.advances (here_reads _ (then_reads _ c.in_ok-take.ensures.advances (must_reads _ _ (sym c.is_utf8.ensures ∙ c.if-is_utf8.true) (pure_reads _)))));
+      inside = rw c.in_ok-length.ensures.advances.payload at t.inside;
     }
 
 pub returns : goal.returns
 unfolding read_string
 returns c = rw c.at.ensures (record {
-  is = then_reads _ c.in_ok-length.ensures (here_reads _ (then_reads _ c.in_ok-take.ensures.advances (must_not_reads _ (sym c.is_utf8.ensures ∙ c.if-is_utf8.false) refl)));
+  is = then_reads _ c.in_ok-length.ensures.advances (here_reads _ (then_reads _ c.in_ok-take.ensures.advances (must_not_reads _ (sym c.is_utf8.ensures ∙ c.if-is_utf8.false) refl)));
   inside = tt;
 })

@@ -2,7 +2,7 @@
 use Rattle.std.specs.Prelude.{Bool, ◌||◌, ◌≡◌, eqb, drop, get_or, length, if◌then◌else◌}
 use Rattle.std.proofs.Math.Bool.{false, true}
 use mathlib.Core.List.{List, [], ◌++◌, ◌∷◌, append_assoc, append-nil}
-use Rattle.std.proofs.Common.{◌∙◌, ap, ap₂, sym, add-zero, zero-add, arith, drop_at, drop-drop, get_or-drop, eq-eqb, eqb-true, ne_eqb}
+use Rattle.std.proofs.Common.{◌∙◌, ap, ap₂, sym, add_comm, add-zero, zero-add, arith, drop_at, drop-drop, get_or-drop, eq-eqb, eqb-true, ne_eqb}
 use Rattle.std.proofs.Math.Path.{refl}
 use Prim.Native.Nat.{◌*◌, ◌+◌, ◌-◌, ◌<◌, ◌≤◌, suc, ℕ}
 use Rattle.std.proofs.lemmas.Bool.{eqb-false}
@@ -143,6 +143,10 @@ unfolding code_total
 no_rows n ws e = rw e
 
 module _ {rows : List ℕ} {count : ℕ} where
+  -- before the first row
+  pub covered_start : Covered rows count 0 count
+  covered_start = let e : row_count rows - 0 ≡ row_count rows = omega arith in record { upto = omega arith; sum = rw e (add_comm (code_total (row_count rows) rows) count) }
+
   pub covered_next : {i left n : ℕ} → Covered rows count i left → i < row_count rows → n ≡ code_at rows i → n ≤ left → Covered rows count (i + 1) (left - n)
   covered_next {i} {left} {n} c h e l = let f = next_code rows i h in record { upto = omega arith; sum = omega (arith, c.sum) }
 

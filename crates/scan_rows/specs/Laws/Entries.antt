@@ -125,6 +125,20 @@ module _ (store rows : List ℕ) (gap m at : ℕ) (seen : List (List ℕ)) (w : 
       go true p true q = key_old store rows at d seen p q
       go true p false q = false≢true (sym (rw (p, q) at e))
 
+-- the same of entries of any width
+module _ (store rows : List ℕ) (width m at : ℕ) (seen : List (List ℕ)) (w : length rows ≡ row_width * row_count rows) where
+  pub any_entry_deep : scan_entries width (suc m) seen (scan_value store 0) (at_row rows at) ≡ refused 17 at
+  any_entry_deep = key_stops (scan_value store 0) m seen (at_row rows at) width (value_deep store rows at (new_key seen) w)
+
+  pub any_entry_bad : (d : ℕ) → (key_fits store rows at and not (is_in (row_key store rows at) seen)) ≡ false → scan_entries width (suc m) seen (scan_value store (suc d)) (at_row rows at) ≡ refused 17 at
+  unfolding ◌and◌
+  any_entry_bad d e = key_stops (scan_value store (suc d)) m seen (at_row rows at) width (go (key_fits store rows at) refl (is_in (row_key store rows at) seen) refl)
+    where
+      go : (a : Bool) → key_fits store rows at ≡ a → (b : Bool) → is_in (row_key store rows at) seen ≡ b → scan_value store (suc d) (new_key seen) (at_row rows at) ≡ refused 17 at
+      go false p b q = key_unfit store rows at d seen w p
+      go true p true q = key_old store rows at d seen p q
+      go true p false q = false≢true (sym (rw (p, q) at e))
+
 ---- the loop
 
 -- after k of n entries the scan stands at row `at`; `seen` is what the definition has seen, `keys` what the rows before hold

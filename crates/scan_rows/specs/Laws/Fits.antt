@@ -6,18 +6,18 @@ use Rattle.std.proofs.Math.Path.{ap, refl, sym}
 use Prim.Native.Nat.{◌%◌, ◌+◌, ◌-◌, ◌<◌, ◌^◌, ◌≤◌, suc, ℕ}
 use native.Mathlib.Omega.{arith}
 use Rattle.std.proofs.Math.Dec.{eqb, leb, ltb}
-use borrow.Author.Tests.{eq-eqb, eqb-true, le-leb, le-ltb, leb-true, lt-ltb, ltb-false, ltb-true, ne_eqb}
+use borrow.Author.Tests.{eq-eqb, eqb-true, le-leb, le-ltb, leb-false, leb-true, lt-leb, lt-ltb, ltb-false, ltb-true, ne_eqb}
 use Rattle.payload.specs.Choice.{◌and◌, ◌or◌, when◌then◌else◌}
 use Rattle.payload.specs.Laws.Pool.{false≢true}
 use Rattle.payload.specs.Numbers.{NumberKind, bool, char, f32, f64, fits_kind, fits_signed, handle, i16, i32, i64, i8, is_scalar, u16, u32, u64, u8}
 use Rattle.payload.specs.Rows.{kind_width, kinds_width, row_width}
-use Rattle.payload.specs.Shapes.{ItemKind, kinds_of, no_value, shape, shapes, with_kids}
+use Rattle.payload.specs.Shapes.{ItemKind, is_key_tag, kinds_of, no_value, shape, shapes, with_kids}
 use Rattle.row_layout.specs.Laws.Layout.{all_from, shape_all}
 use Rattle.row_layout.specs.Layout.{after_first, count_word, first_test, first_test_of, item_test, kids_rules, number_test, second_test, second_test_of, second_word, shape_rules, under_rules, used_words}
 use Rattle.signed.specs.Laws.Signed.{cut_high, cut_low}
 use Rattle.signed.specs.Signed.{signed_of, word_of}
 use Rattle.scan_rows.specs.Fits.{number_fits, words_fit}
-use Rattle.scan_rows.specs.Row.{item_fits, items_fit, row_fits, tag_at, word_at, zeros_from}
+use Rattle.scan_rows.specs.Row.{item_fits, items_fit, key_fits, row_count, row_fits, tag_at, word_at, zeros_from}
 
 same_test : (a b : ℕ) (t : Bool) → (t ≡ true → a ≡ b) → (a ≡ b → t ≡ true) → eqb a b ≡ t
 same_test a b true f g = eq-eqb a b (f refl)
@@ -133,6 +133,14 @@ first_decides store rows i (k ∷ ks) v e = rw (sym (item_is store k (word_at ro
 
 ---- what the code's tests say
 
+-- a sum tested without making it
+pub leb_after : (o n e : ℕ) → o ≤ e → leb n (e - o) ≡ leb (o + n) e
+leb_after o n e h = go (leb n (e - o)) refl
+  where
+    go : (b : Bool) → leb n (e - o) ≡ b → b ≡ leb (o + n) e
+    go true q = sym (le-leb (o + n) e (omega (arith, leb-true n (e - o) q)))
+    go false q = sym (lt-leb (o + n) e (omega (arith, leb-false n (e - o) q)))
+
 module _ (rows : List ℕ) (i k : ℕ) where
   pub zeros_more : k < row_width → word_at rows i k ≡ 0 → zeros_from rows i k (row_width - k) ≡ zeros_from rows i (k + 1) (row_width - (k + 1))
   unfolding zeros_from ◌and◌
@@ -182,3 +190,13 @@ none_low t h = eqb-true _ _ (go (shape_all (λ t sh. when◌then◌else◌ (ltb 
 
     go : when◌then◌else◌ (ltb t 7) (eqb (shape_rules (shape t)) 0) true ≡ true → eqb (shape_rules (shape t)) 0 ≡ true
     go e = rw (lt-ltb t 7 h) at e
+
+-- whether a row of the table is a key, by its tag
+module _ (store rows : List ℕ) (i : ℕ) (u : i < row_count rows) {t : ℕ} (et : t ≡ tag_at rows i) where
+  pub not_key_tag : is_key_tag t ≡ false → key_fits store rows i ≡ false
+  unfolding key_fits ◌and◌
+  not_key_tag e = rw (lt-ltb i (row_count rows) u) (rw (ap is_key_tag (sym et) ∙ e))
+
+  pub key_tag : is_key_tag t ≡ true → key_fits store rows i ≡ row_fits store rows i
+  unfolding key_fits ◌and◌
+  key_tag e = rw (lt-ltb i (row_count rows) u) (rw (ap is_key_tag (sym et) ∙ e))

@@ -173,6 +173,10 @@ pub record Searching (store rows : List ℕ) (gap first i k : ℕ) : Type 0 wher
       → (m : List (List ℕ)) × Entries store rows (suc gap) k i m × (is_in (row_key store rows i) l ≡ is_in (row_key store rows i) m)
 
 module _ {store rows : List ℕ} {gap first i : ℕ} where
+  -- before the first comparison
+  pub search_start : Searching store rows gap first i first
+  search_start = record { rest = λ l e. (l, e, refl) }
+
   pub search_next : {k j : ℕ} → k < i → Searching store rows gap first i k → same (row_key store rows i) (row_key store rows k) ≡ false
       → ((j' : ℕ) → Skip rows gap (k + 1) j' → j ≡ j') → Searching store rows gap first i j
   unfolding is_in
@@ -197,3 +201,16 @@ module _ {store rows : List ℕ} {gap first i : ℕ} where
 
     pub search_values : (j : ℕ) × Skip rows gap (k + 1) j
     search_values = let r = s.rest l e in let n = entries_next h r.1 in (n.0, values_after store n.3 n.4)
+
+  -- said of the whole entry: its key, and the row after its values
+  pub search_row : {k : ℕ} (l : List (List ℕ)) → Entries store rows (suc gap) first i l → Searching store rows gap first i k → k < i → (key_fits store rows k ≡ true) × (j : ℕ) × Skip rows (suc gap) k j
+  search_row {k} l e s h = let r = s.rest l e in let n = entries_next h r.1 in (n.3, n.0, n.4)
+
+  -- and the search goes on behind it
+  pub search_next_row : {k j : ℕ} → k < i → Searching store rows gap first i k → same (row_key store rows i) (row_key store rows k) ≡ false
+      → ((j' : ℕ) → Skip rows (suc gap) k j' → j ≡ j') → Searching store rows gap first i j
+  unfolding is_in
+  search_next_row {k} {j} h s d f = record {
+    rest = λ l e. let r = s.rest l e in let n = entries_next h r.1 in
+        (n.1, rw (f n.0 n.4) n.5, r.2 ∙ ap (is_in (row_key store rows i)) n.2 ∙ (rw d));
+  }

@@ -12,7 +12,7 @@ use Rattle.payload.specs.Laws.Pool.{and_both}
 use Rattle.payload.specs.Reader.{Part, ◌>>=◌, ◌>>◌, and_then, ok, pure, refused, start}
 use Rattle.payload.specs.Rows.{row_width}
 use Rattle.payload.specs.Scan.{scan_outer, scan_value}
-use Rattle.payload.specs.Sound.{Tables, all_starts, give_node, is_nil, line_of, line_sound, no_more_rows, script_of, sound_script, spans_of, spans_sound}
+use Rattle.payload.specs.Sound.{Tables, all_starts, give_node, is_nil, line_of, line_sound, no_more_rows, script_of, sound_script, spans_of, spans_sound, tables}
 use Rattle.payload.specs.Spans.{small_spans}
 use Rattle.payload.specs.Trees.{Node, Script}
 use Rattle.utf8.specs.Utf8.{is_utf8, part_is_utf8}
@@ -61,6 +61,12 @@ unfolding all_starts
 starts_small [] h = refl
 starts_small (s ∷ ss) h = and_both (lt-ltb s (2 ^ 32) (h 0)) (starts_small ss (λ k. h (suc k)))
 
+-- where there are none
+pub none_small : (ss : List ℕ) → length ss ≡ 0 → all_starts ss ≡ true
+unfolding all_starts
+none_small [] e = refl
+none_small (s ∷ ss) e = absurd (omega arith)
+
 pub no_starts : (ss : List ℕ) → eqb (length ss) 0 ≡ is_nil ss
 unfolding is_nil
 no_starts [] = refl
@@ -89,6 +95,11 @@ module _ (T : Tables) where
       go true true = refl
       go true false = refl
       go false b = refl
+
+-- the line index needs neither rows nor spans
+pub line_alone : (store rows spans starts : List ℕ) (flag o n : ℕ) → line_sound (tables store [] [] starts flag o n) ≡ line_sound (tables store rows spans starts flag o n)
+unfolding line_sound
+line_alone store rows spans starts flag o n = refl
 
 ---- the script
 

@@ -32,6 +32,10 @@ module _ {rows : List ℕ} where
   skip_end stay h = h
   skip_end (over {n} {i} {j} u s) h = skip_end s (omega arith)
 
+  -- the same of equal numbers
+  pub skip_as : {a b i j k l : ℕ} → a ≡ b → i ≡ j → k ≡ l → Skip rows a i k → Skip rows b j l
+  skip_as e f g s = rw (← e, ← f, ← g) s
+
 -- a row that has one row more under it, or none
 pub skip_row : {rows : List ℕ} {i j n : ℕ} → i < row_count rows → n ≡ rows_under rows i → Skip rows n (i + 1) j → Skip rows 1 i j
 skip_row {rows} {i} {j} {n} u e s = let f : n ≡ rows_under rows i + 0 = omega arith in over u (rw f at s)
@@ -50,6 +54,10 @@ under_by_lem (with_template kinds) n = refl
 pub rows_under_is : (rows : List ℕ) (i : ℕ) → rows_under rows i ≡ under_by (under_rules (tag_at rows i)) (count_at rows i)
 unfolding rows_under under_rules
 rows_under_is rows i = under_by_lem (shape (tag_at rows i)) (count_at rows i)
+
+-- the same by the numbers that the code has
+pub under_at : (rows : List ℕ) (i : ℕ) {t u n : ℕ} → t ≡ tag_at rows i → u ≡ under_rules t → n ≡ count_at rows i → rows_under rows i ≡ under_by u n
+under_at rows i et eu en = rw (en, eu, et) (rows_under_is rows i)
 
 ---- a walk over rows with so many left
 

@@ -14,7 +14,7 @@ use Rattle.payload.specs.Reading.{read_many}
 use Rattle.payload.specs.Rows.{row_width}
 use Rattle.payload.specs.Scan.{RowScan, Test, any_row, is_function, scan_kids, scan_untagged, scan_value}
 use Rattle.payload.specs.Shapes.{ItemKind, Kids, Shape, keys, no_value, one_value, pairs, shape, values, with_chunk, with_fields, with_kids, with_template}
-use Rattle.payload.specs.Trees.{Node, cons, forget_items, node_of}
+use Rattle.payload.specs.Trees.{Node, cons, forget_items, nil, node_of}
 use Rattle.row_layout.specs.Layout.{kids_rules, shape_rules, under_rules}
 use Rattle.scan_rows.specs.Found.{Scanned, Scan}
 use Rattle.scan_rows.specs.Laws.Row.{row_with, untagged_past, untagged_scanned, value_deep, value_past, value_scanned}
@@ -43,6 +43,10 @@ found_under store rows table i R rules e en s =
     rw (rows_under_is table i, under_by_rules store R (shape (tag_at table i)) (count_at table i)) (unfold under_rules in (rw (e, ← en) s))
 
 -- one tree
+pub many_one : (r : Reader (Node Part)) (s : State) → Leads (read_many 1 r s) (r s)
+unfolding read_many ◌>>=◌ and_then pure
+many_one r s = record { on_ok = λ t s' e. (cons t nil, rw e refl); on_refused = λ n p e. rw e refl }
+
 pub one_many : (r : Reader (Node Part)) (s : State) → Leads (r s) (read_many 1 r s)
 unfolding read_many ◌>>=◌ and_then pure
 one_many r s = go (r s)

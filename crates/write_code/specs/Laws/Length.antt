@@ -1,11 +1,12 @@
 -- How many runs spans have, and how many bytes those have, span by span.
-use Rattle.std.specs.Prelude.{◌≡◌, ℕ, suc, ◌+◌, ◌*◌, ◌≤◌, true, false, List, [], ◌∷◌, length, drop}
+use Rattle.std.specs.Prelude.{◌≡◌, ℕ, suc, ◌+◌, ◌*◌, ◌/◌, ◌≤◌, true, false, List, [], ◌∷◌, length, drop}
 use Rattle.std.proofs.Common.{ap, arith, length-append}
 use Rattle.varint.specs.Laws.Uleb128.{uleb_small}
 use Rattle.varint.specs.Uleb128.{uleb128}
+use Rattle.payload.specs.Sound.{spans_of}
 use Rattle.payload.specs.Spans.{Span, Run, same_span, runs_of, write_delta, write_deltas, write_runs}
 use Rattle.write_code.specs.Runs.{span, repeated}
-use Rattle.write_code.specs.Laws.Runs.{runs_first, repeated_same, repeated_other, same_span_eq}
+use Rattle.write_code.specs.Laws.Runs.{runs_first, repeated_same, repeated_other, same_span_eq, spans_none}
 
 -- the runs after that of a span which stands in front of others
 abbrev pub runs_after : Span → List Span → List Run
@@ -55,6 +56,10 @@ pub record Measured (all : List Span) (s : Span) (l : List Span) (runs n bytes :
 pub measured_none : 1 ≡ length (write_runs [])
 unfolding write_runs runs_of write_deltas
 measured_none = rw (uleb_small 0 (omega arith))
+
+-- of any table with too few words for a span
+pub measured_none_of : (ws : List ℕ) → length ws / 2 ≡ 0 → 1 ≡ length (write_runs (spans_of ws))
+measured_none_of ws h = rw (spans_none ws (omega arith)) measured_none
 
 pub measured_first : (s : Span) (l : List Span) (bytes : ℕ) → bytes ≡ deltas first s → bytes ≤ 30 → Measured (s ∷ l) s l 1 1 bytes
 measured_first s l bytes e h =

@@ -1,5 +1,5 @@
 -- Laws of spans: their maximal runs one after another, and how often a span is repeated at the front of a table.
-use Rattle.std.specs.Prelude.{◌≡◌, ℕ, zero, suc, ◌+◌, ◌-◌, ◌*◌, ◌/◌, ◌<◌, ◌≤◌, Bool, true, false, List, [], ◌∷◌, ◌++◌, length, drop, take, slice_index}
+use Rattle.std.specs.Prelude.{◌≡◌, ℕ, zero, suc, ◌+◌, ◌-◌, ◌*◌, ◌/◌, ◌<◌, ◌≤◌, Bool, true, false, cond, ◌&&◌, List, [], ◌∷◌, ◌++◌, length, drop, take, slice_index}
 use Rattle.std.proofs.Math.Path.{refl, sym, ap}
 use Rattle.std.proofs.Common.{◌∙◌, add-one, length-drop, drop-cons, eqb-true}
 use native.Mathlib.Omega.{arith}
@@ -70,6 +70,15 @@ repeated_few s (t ∷ l) = go (same_span s t) (repeated_few s l)
     go true h = omega arith
     go false h = omega arith
 
+-- the sum that counts four tests
+pub trues_sum : (p q r s : Bool) → cond p 1 0 + cond (p && q) 1 0 + cond ((p && q) && r) 1 0 + cond (((p && q) && r) && s) 1 0 ≡ leading_trues (p ∷ q ∷ r ∷ s ∷ [])
+unfolding leading_trues when◌then◌else◌
+trues_sum false q r s = refl
+trues_sum true false r s = refl
+trues_sum true true false s = refl
+trues_sum true true true false = refl
+trues_sum true true true true = refl
+
 ---- in the table
 
 -- span k of a table
@@ -81,6 +90,14 @@ unfolding spans_of
 spans_none [] h = refl
 spans_none (x ∷ []) h = refl
 spans_none (x ∷ y ∷ ws) h = absurd (omega arith)
+
+-- past the last span, and in a table that has none
+pub spans_end : (ws : List ℕ) (k : ℕ) → length ws / 2 ≤ k → spans_of (drop (2 * k) ws) ≡ []
+spans_end ws k h = spans_none (drop (2 * k) ws) (omega (arith, length-drop (2 * k) ws))
+
+pub counted_none : (ws : List ℕ) → length ws / 2 ≡ 0 → 0 ≡ length (runs_of (spans_of ws))
+unfolding runs_of
+counted_none ws h = rw (spans_none ws (omega arith))
 
 pub length_spans : (ws : List ℕ) → length (spans_of ws) ≡ length ws / 2
 unfolding spans_of

@@ -1,10 +1,10 @@
 -- Laws of the walk: one stretch after another, a row's items, the loop over rows, and a row with those under it.
-use Rattle.std.specs.Prelude.{Bool, true, false, List, [], ◌++◌, ◌≡◌, ℕ, zero, suc, ◌+◌, ◌-◌, ◌*◌, ◌/◌, ◌≤◌, ◌<◌, eqb, take, drop}
+use Rattle.std.specs.Prelude.{Bool, true, false, List, [], ◌++◌, ◌≡◌, ℕ, zero, suc, ◌+◌, ◌-◌, ◌*◌, ◌/◌, ◌^◌, ◌≤◌, ◌<◌, eqb, ltb, get_or, take, drop}
 use Rattle.std.proofs.Math.Path.{refl, ap, ap₂}
-use Rattle.std.proofs.Common.{sym, ◌∙◌, subst}
+use Rattle.std.proofs.Common.{sym, ◌∙◌, subst, length-take, get_or-take, get_or-drop}
 use native.Mathlib.Omega.{arith}
-use Rattle.std.proofs.Math.ListN.{length}
-use borrow.Author.Tests.{lt-ltb, le-ltb}
+use Rattle.std.proofs.Math.ListN.{length, get_or-eq_default}
+use borrow.Author.Tests.{ne_eqb, lt-ltb, le-ltb, ltb-true, ltb-false}
 use Rattle.payload.specs.Choice.{when◌then◌else◌}
 use Rattle.payload.specs.Sound.{spans_of}
 use Rattle.payload.specs.Spans.{Span}
@@ -13,9 +13,24 @@ use Rattle.emit.specs.Laws.Emitter.{EmitsRest, emits_as, emits_none, emits_then,
 use Rattle.emit.specs.declared.Emitter.{Emitter}
 use Rattle.row_layout.specs.Layout.{first_form, second_form, second_word, under_form}
 use Rattle.row_layout.specs.Row.{row_word}
-use Rattle.write_rows.specs.Reached.{Reached}
+use Rattle.write_code.specs.Runs.{Positions}
+use Rattle.write_rows.specs.Reached.{Writable, Reached}
 use Rattle.write_rows.specs.Walk.{Held, held, row_count, tag_at, item_bytes, both_items, items_bytes, head_bytes, rows_under, row_spans, span_after, head_walk, Walked, walked, and_walk, walk_times, walk_row, walk_next, walk}
 use Rattle.write_rows.specs.declared.Place.{Place}
+
+---- a part of the span table
+
+-- its words are positions where those of the table are
+pub positions_part : (ws : List ℕ) (n a : ℕ) → Positions ws → Positions (take n (drop a ws))
+positions_part ws n a h k = go (ltb k n) refl
+  where
+    go : (t : Bool) → ltb k n ≡ t → get_or (take n (drop a ws)) k 0 < 2 ^ 63
+    go true q = let e : get_or (take n (drop a ws)) k 0 ≡ get_or ws (a + k) 0 = get_or-take n (drop a ws) k 0 (ltb-true k n q) ∙ get_or-drop a ws k 0 in omega (arith, h (a + k))
+    go false q = let e = get_or-eq_default (take n (drop a ws)) 0 {n = k} (omega (arith, length-take n (drop a ws), ltb-false k n q)) in omega arith
+
+-- it can be written with the same store and pool
+pub writable_part : {store pool ws : List ℕ} (n a : ℕ) → Writable store pool ws → Writable store pool (take n (drop a ws))
+writable_part {ws = ws} n a h = record { once = h.once; small = positions_part ws n a h.small }
 
 ---- one stretch after another
 
@@ -39,8 +54,13 @@ module _ {many : ℕ} where
 
 ---- a row's items
 
-item_as : (s : List ℕ) (l : List (List ℕ)) (ss : List Span) {k k' a a' b b' : ℕ} → k ≡ k' → a ≡ a' → b ≡ b' → item_bytes s l ss k a b ≡ item_bytes s l ss k' a' b'
+pub item_as : (s : List ℕ) (l : List (List ℕ)) (ss : List Span) {k k' a a' b b' : ℕ} → k ≡ k' → a ≡ a' → b ≡ b' → item_bytes s l ss k a b ≡ item_bytes s l ss k' a' b'
 item_as s l ss p q r = λ i. item_bytes s l ss (p i) (q i) (r i)
+
+-- a number's bytes need neither store nor pool nor spans, nor a second word
+pub item_number : (s : List ℕ) (l : List (List ℕ)) (ss : List Span) (k a b : ℕ) → k < 6 → item_bytes [] [] [] k a 0 ≡ item_bytes s l ss k a b
+unfolding item_bytes when◌then◌else◌
+item_number s l ss k a b h = rw (ne_eqb k 6 (λ e. omega arith), ne_eqb k 7 (λ e. omega arith))
 
 -- the first, and the second
 pub both_emitted : (H : Held) (i : ℕ) (ss : List Span) {e e₁ e₂ : Emitter} {tag f a b g w c d : ℕ} → tag ≡ tag_at H.rows i
@@ -132,6 +152,15 @@ walk_none H zero i j = refl
 walk_none H (suc d) i j = refl
 
 ---- a row
+
+pub record Between (low high k : ℕ) : Type 0 where
+  pub above : low ≤ k
+  pub below : k ≤ high
+
+-- the span after those of a row does not stand before them, nor past the last span
+pub after_within : (H : Held) (i j r : ℕ) → r ≡ span_after H i j → j ≤ length H.spans / 2 → Between j (length H.spans / 2) r
+unfolding span_after
+after_within H i j r e h = record { above = omega arith; below = omega arith }
 
 -- its bytes, with the spans that its code has
 pub head_reached : (H : Held) (i j : ℕ) {e e' : Emitter} {j' : ℕ} → j' ≡ span_after H i j → j' ≤ length H.spans / 2

@@ -5,11 +5,11 @@ use Rattle.cursor.specs.Laws.Advances.{stays}
 use Rattle.cursor.specs.Laws.Reads.{reads_varint}
 use Rattle.cursor.proofs.Cursor.uvarint.Goals as goal
 
-pub returns-in_err-number : goal.returns-in_err-number
-returns-in_err-number c = let s = c.args.self.now in rw (same_error c.from_residual.result _ c.from_residual.ensures.1) (stays (rw (sym c.in_err-number.ensures) at (reads_varint s.payload.now s.at)))
+pub returns-in_err-number-clause-advances : goal.returns-in_err-number-clause-advances
+returns-in_err-number-clause-advances c = let s = c.args.self.now in rw (same_error c.from_residual.result _ c.from_residual.ensures.1) (stays (rw (sym c.in_err-number.ensures) at (reads_varint s.payload.now s.at)))
 
 pub invariant_of-self : goal.invariant_of-self
 invariant_of-self c = let s = c.args.self.now in record { inside = (rw (sym c.in_ok-number.ensures) at (reads_varint s.payload.now s.at)).inside }
 
-pub returns : goal.returns
-returns c = let s = c.args.self.now in record { payload = refl; reads = rw (sym c.in_ok-number.ensures) at (reads_varint s.payload.now s.at) }
+pub returns-clause-advances : goal.returns-clause-advances
+returns-clause-advances c = let s = c.args.self.now in record { payload = refl; reads = rw (sym c.in_ok-number.ensures) at (reads_varint s.payload.now s.at) }

@@ -16,7 +16,7 @@ zero_or_one false = refl
 
 pub returns-in_err-byte : goal.returns-in_err-byte
 unfolding read_number
-returns-in_err-byte c = rw (same_error c.from_residual.result _ c.from_residual.ensures.1) (stop_reads _ c.in_err-byte.ensures)
+returns-in_err-byte c = rw (same_error c.from_residual.result _ c.from_residual.ensures.1) (stop_reads _ c.in_err-byte.ensures.advances)
 
 pub returns : goal.returns
-returns c = rw (← zero_or_one (eqb c.in_ok-byte.field-0 0)) (by_law reads_bool c.in_ok-byte.ensures)
+returns c = rw (← zero_or_one (eqb c.in_ok-byte.field-0 0)) (by_law reads_bool c.in_ok-byte.ensures.advances)

@@ -33,7 +33,7 @@ read_chunk-returns-in_err-count t c =
     let code = c.in_ok-code.ensures in
     rw (same_error c.from_residual-in_err-count.result _ c.from_residual-in_err-count.ensures.1)
     (count_refused s (λ e. read_value e c.args.left) c.if-self.false (code_read s.source c.new-cursor.ensures code) refl
-    (read_on s.source (code.payload ∙ c.new-cursor.ensures.0) c.in_err-count.ensures))
+    (read_on s.source (code.payload ∙ c.new-cursor.ensures.0) c.in_err-count.ensures.advances))
 
 pub read_chunk-returns : goal.read_chunk-returns
 read_chunk-returns t c =
@@ -41,7 +41,7 @@ read_chunk-returns t c =
     let code = c.in_ok-code.ensures in
     let stored = c.store_row.ensures in
     does_chunk s (λ e. read_value e c.args.left) c.if-self.false (code_read s.source c.new-cursor.ensures code)
-    (read_on s.source (code.payload ∙ c.new-cursor.ensures.0) c.in_ok-count.ensures) stored.stored stored.same_spans (c.read_values.ensures.same ∙ stored.same)
+    (read_on s.source (code.payload ∙ c.new-cursor.ensures.0) c.in_ok-count.ensures.advances) stored.stored stored.same_spans (c.read_values.ensures.same ∙ stored.same)
     (did_from s stored.same c.read_values.ensures)
 
 ---- a closure
